@@ -1,0 +1,5 @@
+pub mod Bits
+pub mod Wraps
+mod Complement
+mod Division
+mod Sums

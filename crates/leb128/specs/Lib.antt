@@ -1,0 +1,4 @@
+pub mod Leb
+pub mod Answers
+pub mod Ends
+pub mod Examples

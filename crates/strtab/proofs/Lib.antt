@@ -1,0 +1,10 @@
+mod Table
+mod Ranges
+pub mod Leading
+mod Chars
+mod Passing
+mod Runs
+mod Names
+pub mod Texts
+mod Answers
+mod Samples

@@ -1,0 +1,21 @@
+#!/bin/sh
+# Holds the stored vectors to what makes them and to Rust's standard library, where this machine has Python and a
+# Rust compiler; says so in plain words where it has not.
+set -u
+cd "$(dirname "$0")/../.." || exit 2
+vectors=crates/reader_cases/stdin
+tmp=$(mktemp -d) || exit 2
+trap 'rm -rf "$tmp"' EXIT
+if command -v python3 >/dev/null 2>&1; then
+    sh tests/vectors/all.sh >"$tmp/made" || exit 1
+    cmp "$tmp/made" "$vectors" || { echo "vectors: $vectors is not what tests/vectors/all.sh writes"; exit 1; }
+    echo "vectors: $vectors is what tests/vectors/all.sh writes"
+else
+    echo "vectors: no python3 here, so $vectors was not made again"
+fi
+if command -v rustc >/dev/null 2>&1; then
+    rustc --edition 2021 -O -o "$tmp/second" tests/vectors/second.rs || exit 1
+    "$tmp/second" <"$vectors" || exit 1
+else
+    echo "vectors: no rustc here, so Rust's standard library was not asked"
+fi
