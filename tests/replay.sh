@@ -7,8 +7,8 @@ program=target/bin/reader_cases
 [ -x "$program" ] || { echo "replay: $program is not built"; exit 1; }
 tmp=$(mktemp -d) || exit 2
 trap 'rm -rf "$tmp"' EXIT
-# for each kind its first case that has a value, and the same with the last digit of that value raised by one
-awk '!/^#/ && $6 == "v" && !seen[$1]++ {
+# for each kind its first case, and the same with the last digit of its first number raised by one
+awk '!/^#/ && !seen[$1]++ {
     print
     digits = "0123456789abcdef"
     at = index(digits, substr($7, length($7), 1)) % 16 + 1

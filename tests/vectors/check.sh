@@ -1,6 +1,6 @@
 #!/bin/sh
-# Holds the stored vectors to what makes them and to Rust's standard library, where this machine has Python and a
-# Rust compiler; says so in plain words where it has not.
+# Holds the stored vectors to what makes them, to Rust's standard library and to the unchanged Rust, where this
+# machine has Python, a Rust compiler and the sources; says so in plain words where it has not.
 set -u
 cd "$(dirname "$0")/../.." || exit 2
 vectors=crates/reader_cases/stdin
@@ -16,6 +16,10 @@ fi
 if command -v rustc >/dev/null 2>&1; then
     rustc --edition 2021 -O -o "$tmp/second" tests/vectors/second.rs || exit 1
     "$tmp/second" <"$vectors" || exit 1
+    sh tests/oracle/vectors.sh --check
+    status=$?
+    [ "$status" = 0 ] || [ "$status" = 3 ] || exit 1
+    [ "$status" = 0 ] || echo "vectors: so the stored answers of the unchanged Rust were not made again"
 else
-    echo "vectors: no rustc here, so Rust's standard library was not asked"
+    echo "vectors: no rustc here, so neither Rust's standard library nor the unchanged Rust was asked"
 fi

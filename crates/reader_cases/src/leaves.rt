@@ -1,4 +1,5 @@
 // What each leaf answers to a case, as a tag and up to four numbers, so that all can be compared alike.
+use crate::lines::of_lines;
 use leb128::Signed;
 use leb128::Unsigned;
 use reads::Read8;
@@ -30,7 +31,7 @@ fn value(a: u64, b: u64) -> Said {
     }
 }
 
-fn only(tag: u8) -> Said {
+pub fn only(tag: u8) -> Said {
     Said {
         tag,
         a: 0,
@@ -166,6 +167,7 @@ pub fn answer(kind: u8, bytes: &[u8], p: u64, q: u64, r: u64) -> Said {
     match kind {
         b'b' | b'h' | b'w' | b'd' | b'r' | b'u' | b's' => at_place(kind, bytes, p as usize),
         b't' | b'n' | b'p' | b'8' | b'l' => of_strings(kind, bytes, p as usize, q as usize, r),
+        b'H' | b'o' | b'L' => of_lines(kind, bytes, p, q),
         _ => of_signed(kind, p, q),
     }
 }

@@ -2,6 +2,7 @@
 // differ. A line is a case, `KIND BYTES P Q R TAG A B C D`, numbers in hexadecimal, or a remark that starts with `#`.
 // tests/vectors/README.md says what each kind is and where the expected answers come from.
 mod leaves;
+mod lines;
 mod words;
 
 use leaves::Said;

@@ -1,0 +1,113 @@
+// The row of every line block of a GSYM file at the middle address of its symbol: the unchanged Rust against the
+// static library, same process, same input. `line FILE check` compares the answers, also at both ends of each symbol;
+// `line FILE time PASSES` prints medians; `line FILE rust` and `line FILE rattle` make one pass, for counting instructions.
+use oracle::gsym::facade;
+use std::hint::black_box;
+use std::time::Instant;
+
+#[repr(C)]
+#[derive(Clone, Copy, PartialEq, Debug)]
+struct LineAnswer {
+    addr: u64,
+    file: u32,
+    line: u32,
+    tag: u32,
+}
+
+extern "C" {
+    fn gsym_line_row(block: *const u8, len: usize, symbol: u64, addr: u64) -> LineAnswer;
+}
+
+struct Block<'a> {
+    symbol: u64,
+    size: u64,
+    bytes: &'a [u8],
+}
+
+// The blocks of type 1, by the layout alone.
+fn blocks(file: &[u8]) -> Vec<Block<'_>> {
+    let u32_at = |at: usize| u32::from_le_bytes(file[at..at + 4].try_into().unwrap()) as usize;
+    let base = u64::from_le_bytes(file[8..16].try_into().unwrap());
+    let width = file[6] as usize;
+    let count = u32_at(16);
+    let offsets = (48 + count * width + 3) / 4 * 4;
+    let mut out = Vec::new();
+    for i in 0..count {
+        let mut entry = [0; 8];
+        entry[..width].copy_from_slice(&file[48 + i * width..][..width]);
+        let symbol = base + u64::from_le_bytes(entry);
+        let mut at = u32_at(offsets + i * 4);
+        let size = u32_at(at) as u64;
+        at += 8;
+        while u32_at(at) != 0 {
+            let len = u32_at(at + 4);
+            if u32_at(at) == 1 {
+                out.push(Block { symbol, size, bytes: &file[at + 8..][..len] });
+            }
+            at += 8 + len;
+        }
+    }
+    out
+}
+
+fn rust(b: &Block, addr: u64) -> LineAnswer {
+    match facade::line_row(b.bytes, b.symbol, addr) {
+        Ok(Some(r)) => LineAnswer { addr: r.addr, file: r.file_idx, line: r.file_line, tag: 0 },
+        Ok(None) => LineAnswer { addr: 0, file: 0, line: 0, tag: 1 },
+        Err(()) => LineAnswer { addr: 0, file: 0, line: 0, tag: 2 },
+    }
+}
+
+fn rattle(b: &Block, addr: u64) -> LineAnswer {
+    unsafe { gsym_line_row(b.bytes.as_ptr(), b.bytes.len(), b.symbol, addr) }
+}
+
+#[inline(never)]
+fn rust_pass(all: &[Block]) -> u64 {
+    all.iter().map(|b| rust(b, b.symbol + b.size / 2).line as u64).sum()
+}
+
+#[inline(never)]
+fn rattle_pass(all: &[Block]) -> u64 {
+    all.iter().map(|b| rattle(b, b.symbol + b.size / 2).line as u64).sum()
+}
+
+fn median(mut times: Vec<f64>) -> f64 {
+    times.sort_by(f64::total_cmp);
+    times[times.len() / 2]
+}
+
+fn main() {
+    let args: Vec<String> = std::env::args().collect();
+    let file = std::fs::read(&args[1]).unwrap();
+    let all = blocks(&file);
+    match args[2].as_str() {
+        "check" => {
+            let mut cases = 0;
+            for b in &all {
+                for addr in [b.symbol.wrapping_sub(1), b.symbol, b.symbol + b.size / 2, b.symbol + b.size, u64::MAX] {
+                    assert_eq!(rust(b, addr), rattle(b, addr), "symbol {:#x}, address {addr:#x}", b.symbol);
+                    cases += 1;
+                }
+            }
+            println!("{} blocks, {cases} rows compared, 0 differ", all.len());
+        }
+        "time" => {
+            let passes: usize = args[3].parse().unwrap();
+            let (mut r, mut q) = (Vec::new(), Vec::new());
+            for _ in 0..passes {
+                let t = Instant::now();
+                black_box(rust_pass(black_box(&all)));
+                r.push(t.elapsed().as_secs_f64());
+                let t = Instant::now();
+                black_box(rattle_pass(black_box(&all)));
+                q.push(t.elapsed().as_secs_f64());
+            }
+            let (r, q) = (median(r), median(q));
+            println!("time, median of {passes} passes: Rust {:.2} ms, this {:.2} ms, ratio {:.3}", r * 1e3, q * 1e3, q / r);
+        }
+        "rust" => println!("{}", rust_pass(&all)),
+        "rattle" => println!("{}", rattle_pass(&all)),
+        other => panic!("no mode {other}"),
+    }
+}

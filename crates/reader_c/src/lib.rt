@@ -1,0 +1,52 @@
+// Parts of the reader for programs that compare and measure them from C or Rust: each function here only hands its
+// arguments on and lays the answer out as C has it. What a host should call is another crate's business.
+use linetab::LineRead;
+use types::Address;
+ghost use mathlib.Core.Path.{_≡_};
+ghost use Rattle.linetab.specs.Rows.{lineRow};
+ghost use Rattle.reader_c.specs.Laid.{address, rowless, laidLine};
+
+// The row of an address. tag 0: this row; 1: there is none; 2: the header ended short; 3: a number of it is too
+// wide. Where there is no row the other fields are 0.
+#[repr(C)]
+pub struct LineAnswer {
+    pub addr: u64,
+    pub file: u32,
+    pub line: u32,
+    pub tag: u32,
+}
+
+fn without_row(tag: u32) -> LineAnswer
+    ensures { λ r. ⌜ r ≡ rowless tag ⌝ }
+{
+    LineAnswer {
+        addr: 0,
+        file: 0,
+        line: 0,
+        tag,
+    }
+}
+
+fn laid_line(read: LineRead) -> LineAnswer
+    ensures { λ r. ⌜ r ≡ laidLine read ⌝ }
+{
+    match read {
+        LineRead::Row(row) => LineAnswer {
+            addr: row.addr.0,
+            file: row.file_idx.0,
+            line: row.file_line.0,
+            tag: 0,
+        },
+        LineRead::Nothing => without_row(1),
+        LineRead::Short => without_row(2),
+        LineRead::Wide => without_row(3),
+    }
+}
+
+// The row of `addr` in a line table of the symbol at `symbol`: `linetab::line_row`.
+#[no_mangle]
+pub extern "C" fn gsym_line_row(block: &[u8], symbol: u64, addr: u64) -> LineAnswer
+    ensures { λ r. ⌜ r ≡ laidLine (lineRow (now (block .entry)) (address symbol) (address addr)) ⌝ }
+{
+    laid_line(linetab::line_row(block, Address(symbol), Address(addr)))
+}
