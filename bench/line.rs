@@ -1,6 +1,10 @@
 // The row of every line block of a GSYM file at the middle address of its symbol: the unchanged Rust against the
 // static library, same process, same input. `line FILE check` compares the answers, also at both ends of each symbol;
 // `line FILE time PASSES` prints medians; `line FILE rust` and `line FILE rattle` make one pass, for counting instructions.
+mod file;
+
+use file::blocks;
+use file::Block;
 use oracle::gsym::facade;
 use std::hint::black_box;
 use std::time::Instant;
@@ -16,38 +20,6 @@ struct LineAnswer {
 
 extern "C" {
     fn gsym_line_row(block: *const u8, len: usize, symbol: u64, addr: u64) -> LineAnswer;
-}
-
-struct Block<'a> {
-    symbol: u64,
-    size: u64,
-    bytes: &'a [u8],
-}
-
-// The blocks of type 1, by the layout alone.
-fn blocks(file: &[u8]) -> Vec<Block<'_>> {
-    let u32_at = |at: usize| u32::from_le_bytes(file[at..at + 4].try_into().unwrap()) as usize;
-    let base = u64::from_le_bytes(file[8..16].try_into().unwrap());
-    let width = file[6] as usize;
-    let count = u32_at(16);
-    let offsets = (48 + count * width + 3) / 4 * 4;
-    let mut out = Vec::new();
-    for i in 0..count {
-        let mut entry = [0; 8];
-        entry[..width].copy_from_slice(&file[48 + i * width..][..width]);
-        let symbol = base + u64::from_le_bytes(entry);
-        let mut at = u32_at(offsets + i * 4);
-        let size = u32_at(at) as u64;
-        at += 8;
-        while u32_at(at) != 0 {
-            let len = u32_at(at + 4);
-            if u32_at(at) == 1 {
-                out.push(Block { symbol, size, bytes: &file[at + 8..][..len] });
-            }
-            at += 8 + len;
-        }
-    }
-    out
 }
 
 fn rust(b: &Block, addr: u64) -> LineAnswer {
@@ -80,7 +52,7 @@ fn median(mut times: Vec<f64>) -> f64 {
 fn main() {
     let args: Vec<String> = std::env::args().collect();
     let file = std::fs::read(&args[1]).unwrap();
-    let all = blocks(&file);
+    let all = blocks(&file, 1);
     match args[2].as_str() {
         "check" => {
             let mut cases = 0;

@@ -81,6 +81,21 @@ pub fn block(mut data: &[u8], symbol: u64, addr: u64) -> Result<Vec<(u32, u32, u
     Ok(stack.into_iter().map(|f| (f.name, f.call_file, f.call_line)).collect())
 }
 
+// How many frames one inline block has, on a list that is used again as the resolver's is.
+#[inline(never)]
+pub fn count_frames(mut data: &[u8], symbol: u64, addr: u64) -> u64 {
+    thread_local! {
+        static STACK: std::cell::RefCell<Vec<super::inline::InlineFrame>> = const { std::cell::RefCell::new(Vec::new()) };
+    }
+    STACK.with_borrow_mut(|stack| {
+        stack.clear();
+        match super::inline::InlineInfo::parse_inline_stack(&mut data, symbol, addr, stack) {
+            Ok(()) => stack.len() as u64,
+            Err(_) => 0,
+        }
+    })
+}
+
 // A whole lookup, by the unchanged resolver.
 #[cfg(not(one_caller))]
 pub fn with_file<T>(
@@ -100,4 +115,43 @@ pub fn with_file<T>(
             Ok(Ok(sym)) => f(Ok(Some(sym))),
         },
     }
+}
+
+// The refusal number of a header's fault: 2, 3 or 4.
+pub fn header_fault(file: &[u8]) -> Option<u8> {
+    match super::parser::GsymContext::parse_header(file) {
+        Ok(_) => None,
+        Err(e) if e.0.contains("magic") => Some(3),
+        Err(e) if e.0.contains("version") => Some(4),
+        Err(_) => Some(2),
+    }
+}
+
+// The entry of an address, and its own address.
+pub fn entry(file: &[u8], addr: u64) -> Option<(usize, u64)> {
+    let ctx = super::parser::GsymContext::parse_header(file).ok()?;
+    let i = ctx.find_addr(addr)?;
+    Some((i, ctx.addr_at(i)?))
+}
+
+// Size and name of an entry.
+pub fn info(file: &[u8], i: usize) -> Option<(u32, u32)> {
+    let ctx = super::parser::GsymContext::parse_header(file).ok()?;
+    let info = ctx.addr_info(i)?;
+    Some((info.size, info.name))
+}
+
+// Directory and file name of a row of the file table.
+pub fn file_row(file: &[u8], i: usize) -> Option<(u32, u32)> {
+    let ctx = super::parser::GsymContext::parse_header(file).ok()?;
+    let row = ctx.file_info(i)?;
+    Some((row.directory, row.filename))
+}
+
+// Kind, place and length of an item of an entry's list.
+pub fn item(file: &[u8], i: usize, nth: usize) -> Option<(u32, usize, usize)> {
+    let ctx = super::parser::GsymContext::parse_header(file).ok()?;
+    let info = ctx.addr_info(i)?;
+    let item = super::parser::parse_address_data(info.data).nth(nth)?;
+    Some((item.typ, item.data.as_ptr() as usize - file.as_ptr() as usize, item.data.len()))
 }

@@ -184,7 +184,7 @@ fn main() {
     }
     let mut data = vec![0x7c, 10, 20];
     data.extend(&long);
-    for addr in [0xf_ffff, 0x10_0000, 0x10_4000, 0x10_c000, top] {
+    for addr in [0xf_ffff, 0x10_4000, top] {
         o.row(&data, 0x10_0000, addr);
     }
     o.remark("programs and headers at random");

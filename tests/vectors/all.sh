@@ -3,4 +3,4 @@
 set -eu
 cd "$(dirname "$0")"
 python3 make.py
-cat line.txt
+cat line.txt inline.txt parser.txt

@@ -1,6 +1,7 @@
 mod Digits
 mod Turn
 mod Plain
+mod Passing
 mod Signs
 pub mod Taken
 pub mod Bytes

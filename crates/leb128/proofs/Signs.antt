@@ -1,11 +1,11 @@
--- What `signed_at` answers, from how the number at the place ends: one law for each way out.
+-- What `signed_at` answers, from what it has read: one law for each way out.
 -- Assumes nothing.
 use Prim.Native.Nat.{ℕ, zero, suc, _+_, _-_, _*_, _^_, _≤_, _<_}
 use mathlib.Core.List.{List}
-use mathlib.Core.Logic.{_⊎_, ⊎-elim}
+use mathlib.Core.Logic.{_⊎_, inl, inr, ⊎-elim}
 use mathlib.Core.Path.{_≡_, ap, sym, _∙_}
 use lib.IntN.{ℤ, pos, negsuc, _-ℤ_}
-use lib.ListN.{drop}
+use lib.ListN.{length, getD, drop}
 use lib.Signed.{mag}
 use mir.Syntax.{w64}
 use mir.Val.{toZ, ofZ}
@@ -21,6 +21,7 @@ use Rattle.leb128.specs.declared.Signed.{Signed}
 use Rattle.leb128.specs.declared.Signed.the-variants as z
 use Rattle.reads.proofs.Orders.{lt-or-ge}
 use Rattle.leb128.proofs.Digits.{weight-le, weight-early, digit-room}
+use Rattle.leb128.proofs.Turn.{Sofar, tenth, used-up, ends, too-long}
 
 -- ---- n groups with the digits x: of either sign, and in range or not
 
@@ -49,7 +50,7 @@ module _ (x n : ℕ) where
     minus-wide : 2 ^ 63 ≤ k → judged x n ≡ wide
     minus-wide f = rw (le-ltb _ _ h, below, le-ltb _ _ f)
 
--- ---- the ways out
+-- ---- by how the number ends
 
 -- what `of_bits` made stands in the answer as it is
 pub made :
@@ -58,11 +59,11 @@ pub made :
 made r x n a f e q = ap (λ v. z.Value v n) (toZ-ofZ w64 r (record { sfits = f }) ∙ e) ∙ q
 
 module _ (s : List ℕ) (at : ℕ) where
-  pub sign-short : digits 10 (drop at s) ≡ short → z.Short ≡ signedAt s at
+  sign-short : digits 10 (drop at s) ≡ short → z.Short ≡ signedAt s at
   unfolding signedAt signed
   sign-short e = rw e
 
-  pub sign-long : digits 10 (drop at s) ≡ wide → z.Wide ≡ signedAt s at
+  sign-long : digits 10 (drop at s) ≡ wide → z.Wide ≡ signedAt s at
   unfolding signedAt signed
   sign-long e = rw e
 
@@ -88,7 +89,7 @@ module _ {s : List ℕ} {at low w last next : ℕ} (h : Ends s at low w last nex
 
   -- a tenth byte that fits is 0 or 127
   module _ (o : (127 ≤ last) ⊎ ((last ≤ 0) ⊎ (w ≡ 2 ^ 63 → ⊥))) where
-    pub sign-room : last < 64 → low + last * w < 2 ^ 63
+    sign-room : last < 64 → low + last * w < 2 ^ 63
     sign-room t =
         ⊎-elim
         (λ (q : 127 ≤ last). absurd (omega arith))
@@ -103,7 +104,7 @@ module _ {s : List ℕ} {at low w last next : ℕ} (h : Ends s at low w last nex
         )))
         o
 
-    pub under-room : 64 ≤ last → ((128 - last) * w ≤ 2 ^ 63) × (low < (128 - last) * w)
+    under-room : 64 ≤ last → ((128 - last) * w ≤ 2 ^ 63) × (low < (128 - last) * w)
     under-room t =
         let least : 1 ≤ 128 - last = omega (arith, h .digit) in
         let most : 128 - last ≤ 64 = omega arith in
@@ -119,12 +120,12 @@ module _ {s : List ℕ} {at low w last next : ℕ} (h : Ends s at low w last nex
         o in
         (room, omega (arith, mul-le-mul-right w least, h .small))
 
-  pub sign-plus : last < 64 → low + last * w < 2 ^ 63 → z.Value (toZ w64 (low + last * w)) next ≡ signedAt s at
+  sign-plus : last < 64 → low + last * w < 2 ^ 63 → z.Value (toZ w64 (low + last * w)) next ≡ signedAt s at
   sign-plus t f =
       let m : last ≤ 63 = omega arith in
       found _ (plus-fits _ _ (omega (arith, power, mul-le-mul-right w m, h .small)) f)
 
-  pub sign-minus :
+  sign-minus :
       64 ≤ last → (128 - last) * w ≤ 2 ^ 63 → low < (128 - last) * w →
       z.Value (toZ w64 (2 ^ 64 - 1 - ((128 - last) * w - low) + 1)) next ≡ signedAt s at
   sign-minus t f l =
@@ -135,7 +136,7 @@ module _ {s : List ℕ} {at low w last next : ℕ} (h : Ends s at low w last nex
       (minus-fits (low + last * w) (h .before + 1) k (omega (arith, power, mul-le-mul-right w t)) d (omega arith)
       ∙ ap (λ x. number (toZ w64 x) (h .before + 1)) b)
 
-  pub sign-wide : w ≡ 2 ^ 63 → 0 < last → last < 127 → z.Wide ≡ signedAt s at
+  sign-wide : w ≡ 2 ^ 63 → 0 < last → last < 127 → z.Wide ≡ signedAt s at
   sign-wide q y t =
       let m : last * w ≡ last * 2 ^ 63 = ap (λ x. last * x) q in
       let x = low + last * w in
@@ -146,3 +147,65 @@ module _ {s : List ℕ} {at low w last next : ℕ} (h : Ends s at low w last nex
       minus-wide x (h .before + 1) (128 * w - suc x) (omega (arith, power)) (omega (arith, power, h .small))
       (omega (arith, h .small)))
       (lt-or-ge last 64))
+
+-- ---- the ways out of the loop
+
+module _ (s : List ℕ) (at low w i : ℕ) (h : Sofar s at low w i) where
+  pub signed-ended : length s ≤ i → z.Short ≡ signedAt s at
+  signed-ended l = sign-short s at (used-up s at low w i h l)
+
+  module _ (l : i < length s) where
+    -- before the tenth byte
+    module _ (q : w < 2 ^ 63) where
+      other : w ≡ 2 ^ 63 → ⊥
+      other e = omega (arith, e, q)
+
+      pub signed-plus :
+          getD s i 0 < 64 →
+          (low + getD s i 0 * w < 2 ^ 63)
+          × (z.Value (toZ w64 (low + getD s i 0 * w)) (i + 1) ≡ signedAt s at)
+      signed-plus t =
+          let e = ends s at low w i h l (omega arith) in
+          let f = sign-room e (inr (inr other)) t in
+          (f, sign-plus e t f)
+
+      pub signed-minus :
+          64 ≤ getD s i 0 → getD s i 0 < 128 →
+          let least = (128 - getD s i 0) * w in
+          (least ≤ 2 ^ 63)
+          × (low < least)
+          × (z.Value (toZ w64 (2 ^ 64 - 1 - (least - low) + 1)) (i + 1) ≡ signedAt s at)
+      signed-minus t y =
+          let e = ends s at low w i h l y in
+          let f = under-room e (inr (inr other)) t in
+          (f .0, f .1, sign-minus e t (f .0) (f .1))
+
+    -- the tenth byte
+    module _ (q : 2 ^ 63 ≤ w) where
+      pub signed-tenth-clear : getD s i 0 ≡ 0 → z.Value (toZ w64 low) (i + 1) ≡ signedAt s at
+      signed-tenth-clear t =
+          let e = ends s at low w i h l (omega arith) in
+          let f = sign-room e (inr (inl (omega arith))) (omega arith) in
+          let v : low ≡ low + getD s i 0 * w = omega (arith, ap (λ x. x * w) t) in
+          ap (λ x. z.Value (toZ w64 x) (i + 1)) v ∙ sign-plus e (omega arith) f
+
+      pub signed-tenth-set :
+          getD s i 0 ≡ 127 →
+          (low < 2 ^ 63) × (z.Value (toZ w64 (low + 2 ^ 63)) (i + 1) ≡ signedAt s at)
+      signed-tenth-set t =
+          let e = ends s at low w i h l (omega arith) in
+          let f = under-room e (inl (omega arith)) (omega arith) in
+          let p : (128 - getD s i 0) * w ≡ 1 * 2 ^ 63 =
+          ap (λ x. (128 - x) * w) t ∙ ap (λ x. 1 * x) (tenth s at low w i h q) in
+          let v : low + 2 ^ 63 ≡ 2 ^ 64 - 1 - ((128 - getD s i 0) * w - low) + 1 = omega (arith, f .1, p) in (
+            omega (arith, f .1, p),
+            ap (λ x. z.Value (toZ w64 x) (i + 1)) v ∙ sign-minus e (omega arith) (f .0) (f .1),
+          )
+
+      pub signed-tenth-wide : (getD s i 0 ≡ 0 → ⊥) → (getD s i 0 ≡ 127 → ⊥) → z.Wide ≡ signedAt s at
+      signed-tenth-wide n m =
+          ⊎-elim
+          (λ (p : getD s i 0 < 128).
+          sign-wide (ends s at low w i h l p) (tenth s at low w i h q) (omega (arith, n)) (omega (arith, m)))
+          (λ (p : 128 ≤ getD s i 0). sign-long s at (too-long s at low w i h l p (tenth s at low w i h q)))
+          (lt-or-ge (getD s i 0) 128)

@@ -26,8 +26,10 @@ use Rattle.leb128.specs.Leb.{
   unsigned,
   signed,
 }
-use Rattle.leb128.specs.Answers.{unsignedFrom, signedFrom, unsignedAt, signedAt}
+use Rattle.leb128.specs.Answers.{unsignedFrom, passedFrom, signedFrom, unsignedAt, passedAt, signedAt}
+use Rattle.leb128.specs.declared.Unsigned.{Unsigned}
 use Rattle.leb128.specs.declared.Unsigned.the-variants as u
+use Rattle.leb128.specs.declared.Passed.the-variants as p
 use Rattle.leb128.specs.declared.Signed.the-variants as z
 use Rattle.reads.proofs.Orders.{lt-or-ge}
 use Rattle.leb128.proofs.Digits.{never, digits-zero, digits-nil, digits-last, digits-more}
@@ -131,6 +133,15 @@ module _ (s : List ℕ) (at : ℕ) where
       go short q = never (cc)
       go wide q = never (cc)
 
+  pub passed-inv : (n : ℕ) → passedAt s at ≡ p.Next n → (v : ℕ) × (unsignedAt s at ≡ u.Value v n)
+  unfolding passedAt
+  passed-inv n e = go (unsignedAt s at) e
+    where
+      go : (r : Unsigned) → passedFrom r ≡ p.Next n → (v : ℕ) × (r ≡ u.Value v n)
+      go (u.Value v m) q = let a : m ≡ n = cc in (v, ap (u.Value v) a)
+      go u.Short q = never (cc)
+      go u.Wide q = never (cc)
+
   within : (k m n : ℕ) → n ≡ at + m → Taken k (drop at s) m → (at < n) × (n ≤ length s)
   within k m n e t = (omega (arith, t .some), omega (arith, t .some, t .within, length-drop at s))
 
@@ -139,6 +150,9 @@ module _ (s : List ℕ) (at : ℕ) where
   unsigned-next v n e =
       let i = unsigned-at-inv v n e in
       within 10 (i .0) n (i .2) (unsigned-taken (drop at s) (i .0) v (i .1))
+
+  pub passed-next : (n : ℕ) → passedAt s at ≡ p.Next n → (at < n) × (n ≤ length s)
+  passed-next n e = let i = passed-inv n e in unsigned-next (i .0) n (i .1)
 
   pub signed-next : (v : ℤ) (n : ℕ) → signedAt s at ≡ z.Value v n → (at < n) × (n ≤ length s)
   signed-next v n e =

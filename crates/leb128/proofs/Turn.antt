@@ -1,4 +1,4 @@
--- The loop of `groups_at`: what it has read, one more byte, and its ways out.
+-- A loop over the bytes of a number: what it has read, one more byte, and its ways out.
 -- Assumes nothing.
 use Prim.Native.Nat.{ℕ, suc, _+_, _-_, _*_, _^_, _≤_, _<_}
 use mathlib.Core.List.{List, _∷_}
@@ -15,6 +15,7 @@ use Rattle.leb128.proofs.Digits.{
   digits-nil,
   digits-last,
   digits-more,
+  weight-le,
   weight-tenth,
   weight-early,
   digit-room,
@@ -63,6 +64,10 @@ begin s at =
     }
 
 module _ (s : List ℕ) (at low w i : ℕ) (h : Sofar s at low w i) where
+  -- only the tenth byte counts so much
+  pub tenth : 2 ^ 63 ≤ w → w ≡ 2 ^ 63
+  tenth q = omega (arith, weight-le (h .passed) w (h .power) 9 (h .few))
+
   pub used-up : length s ≤ i → digits 10 (drop at s) ≡ short
   used-up l = rw (h .rest, drop-of-length-le s l, digits-nil)
 

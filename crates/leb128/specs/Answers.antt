@@ -8,6 +8,8 @@ use lib.ListN.{drop}
 use Rattle.leb128.specs.Leb.{Leb, number, short, wide, unsigned, signed}
 use Rattle.leb128.specs.declared.Unsigned.{Unsigned}
 use Rattle.leb128.specs.declared.Unsigned.the-variants as u
+use Rattle.leb128.specs.declared.Passed.{Passed}
+use Rattle.leb128.specs.declared.Passed.the-variants as p
 use Rattle.leb128.specs.declared.Signed.{Signed}
 use Rattle.leb128.specs.declared.Signed.the-variants as z
 
@@ -25,6 +27,16 @@ signedFrom at wide = z.Wide
 -- the unsigned number at a place
 unfoldable pub unsignedAt : List ℕ → ℕ → Unsigned
 unsignedAt s at = unsignedFrom at (unsigned (drop at s))
+
+-- an answer without its value
+abbrev pub passedFrom : Unsigned → Passed
+passedFrom (u.Value v n) = p.Next n
+passedFrom u.Short = p.Short
+passedFrom u.Wide = p.Wide
+
+-- the place after the unsigned number at a place
+unfoldable pub passedAt : List ℕ → ℕ → Passed
+passedAt s at = passedFrom (unsignedAt s at)
 
 -- the signed number at a place
 unfoldable pub signedAt : List ℕ → ℕ → Signed

@@ -1,13 +1,19 @@
 // LEB128 numbers at a place of a slice (DWARF 5, section 7.6): seven bits a byte, the lowest first, the top bit set
 // where another byte follows. Padding is taken up to ten bytes (document 01, "LEB128").
 ghost use mathlib.Core.Path.{_≡_};
-ghost use Rattle.leb128.specs.Answers.{unsignedAt, signedAt};
-ghost use Rattle.leb128.specs.Ends.{Grouped};
+ghost use Rattle.leb128.specs.Answers.{unsignedAt, passedAt, signedAt};
 
 // The unsigned number at a place, and the place after it.
 // Short: the bytes end before the number does. Wide: it is 2^64 or above, or its tenth byte asks for another.
 pub enum Unsigned {
     Value { value: u64, next: usize },
+    Short,
+    Wide,
+}
+
+// The place after the unsigned number at a place, whatever its value. Short and Wide are those of `Unsigned`.
+pub enum Passed {
+    Next(usize),
     Short,
     Wide,
 }
@@ -21,72 +27,68 @@ pub enum Signed {
     Wide,
 }
 
-// Where a number ends: the value of the bytes before its last one, the weight of that one (128 for each byte before it,
-// multiplied), that one itself, below 128, and the place after it. Wide: the tenth byte asks for another.
-enum Groups {
-    Ended {
-        low: u64,
-        weight: u64,
-        last: u64,
-        next: usize,
-    },
-    Short,
-    Wide,
-}
-
 // The weight of the tenth byte, 2^63.
 const TENTH: u64 = 0x8000_0000_0000_0000;
-
-// Where the number at `at` ends. The weight counts the bytes: no other counter is kept.
-fn groups_at(s: &[u8], at: usize) -> Groups
-    ensures { λ r. ⌜ Grouped (now (s .entry)) at r ⌝ }
-{
-    let mut low: u64 = 0;
-    let mut weight: u64 = 1;
-    let mut i = at;
-    while i < s.len() {
-        let b = s[i] as u64;
-        let next = i + 1;
-        if b < 128 {
-            return Groups::Ended {
-                low,
-                weight,
-                last: b,
-                next,
-            };
-        }
-        if weight == TENTH {
-            return Groups::Wide;
-        }
-        low = low + (b - 128) * weight;
-        weight = weight * 128;
-        i = next;
-    }
-    Groups::Short
-}
 
 // The unsigned number at `at` and the place after it. Short where the bytes end first, also past the end of `s`.
 // Wide where it is 2^64 or above or longer than ten bytes (document 01, "LEB128").
 pub fn unsigned_at(s: &[u8], at: usize) -> Unsigned
     ensures { λ r. ⌜ r ≡ unsignedAt (now (s .entry)) at ⌝ }
 {
-    match groups_at(s, at) {
-        Groups::Ended {
-            low,
-            weight,
-            last,
-            next,
-        } => {
-            // Nine bytes have 63 bits, so a tenth one adds one bit.
-            if weight == TENTH && 1 < last {
-                return Unsigned::Wide;
-            }
-            let value = low + last * weight;
-            Unsigned::Value { value, next }
+    // The value of the bytes passed, and the weight of the next one, which counts them. The loop has the first nine:
+    // with both bounds in one test it is compiled small, and into each caller.
+    let mut sum: u64 = 0;
+    let mut unit: u64 = 1;
+    let mut i = at;
+    while i < s.len() && unit < TENTH {
+        let b = s[i] as u64;
+        if b < 128 {
+            let value = sum + b * unit;
+            let after = i + 1;
+            return Unsigned::Value { value, next: after };
         }
-        Groups::Short => Unsigned::Short,
-        Groups::Wide => Unsigned::Wide,
+        sum = sum + (b - 128) * unit;
+        unit = unit * 128;
+        i = i + 1;
     }
+    if i < s.len() {
+        // Nine bytes have 63 bits, so a tenth one adds one bit, and asks for no other.
+        let tenth = s[i] as u64;
+        if 1 < tenth {
+            return Unsigned::Wide;
+        }
+        let value = sum + tenth * unit;
+        let end = i + 1;
+        return Unsigned::Value { value, next: end };
+    }
+    Unsigned::Short
+}
+
+// The place after the unsigned number at `at`, whose value is not put together. Short and Wide as for `unsigned_at`.
+pub fn pass_at(s: &[u8], at: usize) -> Passed
+    ensures { λ r. ⌜ r ≡ passedAt (now (s .entry)) at ⌝ }
+{
+    let mut passed: usize = 0;
+    let mut i = at;
+    while i < s.len() && passed < 9 {
+        let b = s[i];
+        if b < 128 {
+            let past = i + 1;
+            return Passed::Next(past);
+        }
+        passed = passed + 1;
+        i = i + 1;
+    }
+    if i < s.len() {
+        // Of tenth bytes only 0 and 1 fit.
+        let tenth = s[i];
+        if tenth < 2 {
+            let end = i + 1;
+            return Passed::Next(end);
+        }
+        return Passed::Wide;
+    }
+    Passed::Short
 }
 
 // The signed number at `at` and the place after it: two's complement in seven bits a byte. Short where the bytes end
@@ -95,29 +97,45 @@ pub fn unsigned_at(s: &[u8], at: usize) -> Unsigned
 pub fn signed_at(s: &[u8], at: usize) -> Signed
     ensures { λ r. ⌜ r ≡ signedAt (now (s .entry)) at ⌝ }
 {
-    match groups_at(s, at) {
-        Groups::Ended {
-            low,
-            weight,
-            last,
-            next,
-        } => {
-            // Nine bytes have 63 bits, so a tenth one adds the sign alone: all its bits are clear, or all are set.
-            if weight == TENTH && 0 < last && last < 127 {
-                return Signed::Wide;
-            }
-            if last < 64 {
-                let bits = low + last * weight;
-                let value = int64::of_bits(bits);
-                return Signed::Value { value, next };
-            }
-            // How far below zero it is, from 1 to 2^63.
-            let under = (128 - last) * weight - low;
+    // The value of the bytes passed, and the weight of the next one, as in `unsigned_at`.
+    let mut low: u64 = 0;
+    let mut weight: u64 = 1;
+    let mut i = at;
+    while i < s.len() && weight < TENTH {
+        let b = s[i] as u64;
+        let next = i + 1;
+        // The bit 64 of the last byte is the sign.
+        if b < 64 {
+            let bits = low + b * weight;
+            let value = int64::of_bits(bits);
+            return Signed::Value { value, next };
+        }
+        if b < 128 {
+            // How far below zero it is, from 1 to 2^62.
+            let under = (128 - b) * weight - low;
             let bits = 0xffff_ffff_ffff_ffff - under + 1;
             let value = int64::of_bits(bits);
-            Signed::Value { value, next }
+            return Signed::Value { value, next };
         }
-        Groups::Short => Signed::Short,
-        Groups::Wide => Signed::Wide,
+        low = low + (b - 128) * weight;
+        weight = weight * 128;
+        i = next;
     }
+    if i < s.len() {
+        // Nine bytes have 63 bits, so a tenth one adds the sign alone: all its bits are clear, or all are set.
+        let tenth = s[i];
+        if tenth == 0 {
+            let value = int64::of_bits(low);
+            let end = i + 1;
+            return Signed::Value { value, next: end };
+        }
+        if tenth == 127 {
+            let bits = low + TENTH;
+            let value = int64::of_bits(bits);
+            let end = i + 1;
+            return Signed::Value { value, next: end };
+        }
+        return Signed::Wide;
+    }
+    Signed::Short
 }

@@ -33,7 +33,7 @@ use Rattle.linetab.specs.Machine.{
 
 -- ---- a range other than 0
 
-unless-zero : (z : ℤ) (x : RunResult) → (z ≡ pos 0 → ⊥) → unlessZero z x ≡ x
+pub unless-zero : (z : ℤ) (x : RunResult) → (z ≡ pos 0 → ⊥) → unlessZero z x ≡ x
 unless-zero (pos zero) x h = absurd (h refl)
 unless-zero (pos (suc n)) x h = refl
 unless-zero (negsuc n) x h = refl

@@ -40,6 +40,10 @@ use Rattle.linetab.specs.Machine.{
   stepOf,
 }
 
+-- two constructors are never equal: `never (cc)`
+pub never : {A : Type 0} → _≡_ {A = ℕ} 0 1 → A
+never q = absurd (omega arith)
+
 -- a place above `at`, within `len` bytes
 abbrev pub Onward : ℕ → ℕ → ℕ → Type 0
 Onward at len n = (at < n) × (n ≤ len)
@@ -116,9 +120,6 @@ module _ (h : LineTableHeader) (ops : List ℕ) where
     end-ahead n e = subst (Ahead (t .at) (length ops)) e step-ahead
 
 -- ---- the header
-
-never : {A : Type 0} → _≡_ {A = ℕ} 0 1 → A
-never q = absurd (omega arith)
 
 module _ (s : List ℕ) (h : LineTableHeader) (n : ℕ) where
   first-next :

@@ -2,15 +2,19 @@
 // table"). A header that doesn't read is told with its cause; the refusal number is left to the caller.
 //   header   the numbers of a header behind the first one
 //   opcode   what each opcode does to a row
+//   quick    the row of an address at the usual ranges
 mod header;
 mod opcode;
+mod quick;
 
 use header::parse_max;
 use leb128::Signed;
 use opcode::advance_line;
 use opcode::advance_pc;
+use opcode::range_of;
 use opcode::set_file;
 use opcode::special;
+use quick::quick_rows;
 use types::Address;
 use types::FileIndex;
 use types::LineNumber;
@@ -144,8 +148,22 @@ fn ending(before: RowFound, row: LineTableRow) -> RowFound
 }
 
 // The row of `addr` in the program from `start` on: the one before the first row above `addr`, none if that is the
-// first made.
+// first made. A range that fits a byte goes the quick way, where bytes are divided; all others go opcode by opcode.
 pub fn row_for(header: LineTableHeader, ops: &[u8], start: LineState, addr: Address) -> RowFound
+    ensures { λ r. ⌜ r ≡ rowFor header (now (ops .entry)) start addr ⌝ }
+{
+    let whole = range_of(header);
+    let range = int64::to_bits(whole);
+    if 0 < range && range < 256 {
+        let min = int64::to_bits(header.min_delta);
+        let low = min % 0x1_0000_0000;
+        return quick_rows(header, ops, start, addr, range as u32, low);
+    }
+    row_by_op(header, ops, start, addr)
+}
+
+// The same opcode by opcode, at any range.
+fn row_by_op(header: LineTableHeader, ops: &[u8], start: LineState, addr: Address) -> RowFound
     ensures { λ r. ⌜ r ≡ rowFor header (now (ops .entry)) start addr ⌝ }
 {
     let mut before = RowFound::Nothing;

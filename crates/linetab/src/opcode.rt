@@ -90,7 +90,7 @@ pub(crate) fn advance_line(ops: &[u8], row: LineTableRow, at: usize) -> RunResul
 }
 
 // How many line changes the special opcodes tell apart: max - min + 1, as a signed 64-bit number.
-fn range_of(header: LineTableHeader) -> i64
+pub(crate) fn range_of(header: LineTableHeader) -> i64
     ensures { λ r. ⌜ r ≡ rangeOf header ⌝ }
 {
     let span = int64::wrapping_sub(header.max_delta, header.min_delta);

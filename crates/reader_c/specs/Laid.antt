@@ -4,7 +4,9 @@ use Prim.Native.Nat.{ℕ}
 use Rattle.types.specs.declared.Address.{Address}
 use Rattle.linetab.specs.declared.LineRead.{LineRead}
 use Rattle.linetab.specs.declared.LineRead.the-variants.{Row, Nothing, Short, Wide}
+use Rattle.inline.specs.declared.Listed.{Listed}
 use Rattle.reader_c.specs.declared.LineAnswer.{LineAnswer}
+use Rattle.reader_c.specs.declared.BlockAnswer.{BlockAnswer}
 
 -- a number as an address
 abbrev pub address : ℕ → Address
@@ -20,3 +22,7 @@ laidLine (Row r) = record { addr = r .addr .0; file = r .«file_idx» .0; line =
 laidLine Nothing = rowless 1
 laidLine Short = rowless 2
 laidLine Wide = rowless 3
+
+-- what a block's answer says
+abbrev pub listedAs : BlockAnswer → Listed
+listedAs r = record { number = r .number; count = r .count }

@@ -4,7 +4,8 @@ use linetab::LineRead;
 use types::Address;
 ghost use mathlib.Core.Path.{_≡_};
 ghost use Rattle.linetab.specs.Rows.{lineRow};
-ghost use Rattle.reader_c.specs.Laid.{address, rowless, laidLine};
+ghost use Rattle.inline.specs.Block.{Lists};
+ghost use Rattle.reader_c.specs.Laid.{address, rowless, laidLine, listedAs};
 
 // The row of an address. tag 0: this row; 1: there is none; 2: the header ended short; 3: a number of it is too
 // wide. Where there is no row the other fields are 0.
@@ -49,4 +50,23 @@ pub extern "C" fn gsym_line_row(block: &[u8], symbol: u64, addr: u64) -> LineAns
     ensures { λ r. ⌜ r ≡ laidLine (lineRow (now (block .entry)) (address symbol) (address addr)) ⌝ }
 {
     laid_line(linetab::line_row(block, Address(symbol), Address(addr)))
+}
+
+// What reading one inline block gives: number 0 and how many frames, or the refusal's number and 0.
+#[repr(C)]
+pub struct BlockAnswer {
+    pub count: usize,
+    pub number: u8,
+}
+
+// The frames of one block at an address, three numbers each, to the front of `store`: `inline::block_in`.
+#[no_mangle]
+pub extern "C" fn gsym_block(block: &[u8], symbol: u64, addr: u64, store: &mut [u32]) -> BlockAnswer
+    ensures { λ r. ⌜ Lists (now (block .entry)) symbol addr (now (store .entry)) (now (store .exit)) (listedAs r) ⌝ }
+{
+    let l = inline::block_in(block, Address(symbol), Address(addr), store);
+    BlockAnswer {
+        count: l.count,
+        number: l.number,
+    }
 }

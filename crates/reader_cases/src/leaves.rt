@@ -1,5 +1,7 @@
 // What each leaf answers to a case, as a tag and up to four numbers, so that all can be compared alike.
+use crate::blocks::of_blocks;
 use crate::lines::of_lines;
+use crate::tables::of_tables;
 use leb128::Signed;
 use leb128::Unsigned;
 use reads::Read8;
@@ -21,7 +23,7 @@ pub struct Said {
     pub d: u64,
 }
 
-fn value(a: u64, b: u64) -> Said {
+pub fn value(a: u64, b: u64) -> Said {
     Said {
         tag: b'v',
         a,
@@ -168,6 +170,8 @@ pub fn answer(kind: u8, bytes: &[u8], p: u64, q: u64, r: u64) -> Said {
         b'b' | b'h' | b'w' | b'd' | b'r' | b'u' | b's' => at_place(kind, bytes, p as usize),
         b't' | b'n' | b'p' | b'8' | b'l' => of_strings(kind, bytes, p as usize, q as usize, r),
         b'H' | b'o' | b'L' => of_lines(kind, bytes, p, q),
+        b'B' | b'F' => of_blocks(kind, bytes, p, q, r),
+        b'T' | b'I' | b'E' | b'f' | b'i' => of_tables(kind, bytes, p, q),
         _ => of_signed(kind, p, q),
     }
 }

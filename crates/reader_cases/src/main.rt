@@ -1,8 +1,10 @@
 // Replays the vectors on standard input, prints each that differs, and then how many there were and how many
 // differ. A line is a case, `KIND BYTES P Q R TAG A B C D`, numbers in hexadecimal, or a remark that starts with `#`.
 // tests/vectors/README.md says what each kind is and where the expected answers come from.
+mod blocks;
 mod leaves;
 mod lines;
+mod tables;
 mod words;
 
 use leaves::Said;

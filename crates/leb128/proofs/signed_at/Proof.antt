@@ -1,137 +1,224 @@
 -- `leb128::signed_at` meets its contract: a last byte from 64 on has the sign, and of tenth bytes only 0 and 127 fit.
 -- Assumes nothing.
-use Prim.Native.Nat.{_+_, _-_, _*_, _^_, _<_, _≤_}
-use mathlib.Core.Logic.{_⊎_, inl, inr, ⊎-elim}
+use Prim.Native.Nat.{_-_, _+_, _*_, _^_, _<_, _≤_}
+use mathlib.Core.Logic.{⊎-elim}
 use mathlib.Core.Path.{_≡_}
-use denote.Ref.{now}
+use lib.ListN.{length, getD}
+use mir.Syntax.{w64}
+use mir.Val.{toZ}
 use native.Mathlib.Omega.{arith}
 use borrow.Author.Needs.{needs}
 use borrow.Author.Tests.{ltb-true, ltb-false}
-use Rattle.leb128.specs.Ends.{Ends}
-use Rattle.leb128.proofs.Plain.{told-ended, told-short, told-wide}
+use Rattle.leb128.specs.Answers.{signedAt}
+use Rattle.leb128.specs.declared.Signed.the-variants.{Value}
+use Rattle.leb128.proofs.Turn.{Sofar, begin, goes-on}
 use Rattle.leb128.proofs.Signs.{
   made,
-  sign-short,
-  sign-long,
-  sign-room,
-  under-room,
-  sign-plus,
-  sign-minus,
-  sign-wide,
+  signed-ended,
+  signed-plus,
+  signed-minus,
+  signed-tenth-clear,
+  signed-tenth-set,
+  signed-tenth-wide,
 }
 use Rattle.leb128.proofs.signed_at.Statement.{statement}
 use Rattle.leb128.proofs.signed_at.Tie as tie
 
--- how the number ends, in the arm that has its parts
-ending :
-    (c : tie.After-low) →
-    let a = c .before .before .before .before .args in
-    let p = c .low .given .0 in
-    Ends (now (a .s)) (a .at) (p .0) (p .1 .0) (p .1 .1 .0) (p .1 .1 .1 .0)
-ending c = told-ended _ _ _ (c .before .before .groups-at .ensures) (c .low .given .1)
+abbrev Inv-loop : tie.InvT-loop
+Inv-loop s at low₀ weight₀ i₀ low weight i = Sofar s at low weight i
 
--- what the first test leaves
-fitting :
-    (c : tie.Joined1) →
-    let p = c .before .before .low .given .0 in
-    (127 ≤ p .1 .1 .0) ⊎ ((p .1 .1 .0 ≤ 0) ⊎ (p .1 .0 ≡ 2 ^ 63 → ⊥))
-fitting c =
+abbrev μ-loop : tie.MeasureT-loop
+μ-loop s at low₀ weight₀ i₀ low weight i = length s - i
+
+-- a last byte before the tenth, of either sign
+plus :
+    (c : tie.Then2 Inv-loop μ-loop) →
+    let l = c .before .before .before .before .loop in
+    let a = c .before .before .before .before .before .before .args in
+    let v = l .low + getD (a .s .now) (l .i) 0 * l .weight in
+    (v < 2 ^ 63) × (Value (toZ w64 v) (l .i + 1) ≡ signedAt (a .s .now) (a .at))
+plus c =
+    let b = c .before .before .before in
+    signed-plus _ _ _ _ _ (b .before .loop .inv) (b .loop-test .taken)
+    (ltb-true _ _ (c .before .before .if1 .taken))
+    (c .if2 .taken)
+
+minus :
+    (c : tie.Then3 Inv-loop μ-loop) →
+    let l = c .before .before .before .before .before .loop in
+    let a = c .before .before .before .before .before .before .before .args in
+    let v = (128 - getD (a .s .now) (l .i) 0) * l .weight in
+    (v ≤ 2 ^ 63)
+    × (l .low < v)
+    × (Value (toZ w64 (2 ^ 64 - 1 - (v - l .low) + 1)) (l .i + 1) ≡ signedAt (a .s .now) (a .at))
+minus c =
+    let b = c .before .before .before .before in
+    signed-minus _ _ _ _ _ (b .before .loop .inv) (b .loop-test .taken)
+    (ltb-true _ _ (c .before .before .before .if1 .taken))
+    (c .before .if2 .left)
+    (c .if3 .taken)
+
+-- one more group: its value, the weight after it, and what is read then
+turn :
+    (c : tie.Else3 Inv-loop μ-loop) →
+    let l = c .before .before .before .before .before .loop in
+    let a = c .before .before .before .before .before .before .before .args in
+    let low = l .low + (getD (a .s .now) (l .i) 0 - 128) * l .weight in
+    (low < 2 ^ 63) × (l .weight * 128 ≤ 2 ^ 63) × Sofar (a .s .now) (a .at) low (l .weight * 128) (l .i + 1)
+turn c =
+    let b = c .before .before .before .before in
+    let byte = c .before .before .shared-slice-known2 .given (b .before .loop .i) in
+    let early : b .before .loop .weight < 2 ^ 63 = ltb-true _ _ (c .before .before .before .if1 .taken) in
+    goes-on _ _ _ _ _ (b .before .loop .inv) (b .loop-test .taken) (byte .fits) (c .if3 .left)
+    (λ e. omega (arith, e, early))
+
+-- where a byte is left after the loop, it is the tenth
+weighs : (c : tie.Then4 Inv-loop μ-loop) → 2 ^ 63 ≤ c .before .before .loop .weight
+weighs c =
     ⊎-elim
-    (λ t. inl (ltb-false _ _ (t .2 .left)))
-    (⊎-elim (λ t. inr (inl (ltb-false _ _ (t .1 .left)))) (λ t. inr (inr (t .left))))
-    (c .if1 .came)
+    (λ t. ltb-false _ _ (t .1 .left))
+    (λ t. absurd (omega (arith, t .left, c .if4 .taken)))
+    (c .before .loop-test .came)
 
-over : (c : tie.Then4) → let p = c .before .before .before .low .given .0 in p .0 + p .1 .1 .0 * p .1 .0 < 2 ^ 63
-over c = sign-room (ending (c .before .before .before)) (fitting (c .before)) (c .if4 .taken)
+-- a tenth byte with all its bits set
+set :
+    (c : tie.Then6 Inv-loop μ-loop) →
+    let l = c .before .before .before .before .before .loop in
+    let a = c .before .before .before .before .before .before .before .args in
+    (l .low < 2 ^ 63) × (Value (toZ w64 (l .low + 2 ^ 63)) (l .i + 1) ≡ signedAt (a .s .now) (a .at))
+set c =
+    let b = c .before .before .before in
+    signed-tenth-set _ _ _ _ _ (b .before .before .loop .inv) (b .if4 .taken) (weighs b) (c .if6 .taken)
 
-below :
-    (c : tie.Else4) →
-    let p = c .before .before .before .low .given .0 in
-    ((128 - p .1 .1 .0) * p .1 .0 ≤ 2 ^ 63) × (p .0 < (128 - p .1 .1 .0) * p .1 .0)
-below c = under-room (ending (c .before .before .before)) (fitting (c .before)) (c .if4 .left)
+loop-holds : tie.Need-loop-holds Inv-loop μ-loop
+loop-holds c = begin _ _
 
-groups-at-requires : tie.Need-groups-at-requires
-groups-at-requires c κs = search needs
+shared-slice-read-b : tie.Need-shared-slice-read-b Inv-loop μ-loop
+shared-slice-read-b c = search needs
 
-enum-known-low : tie.Need-enum-known-low
-enum-known-low c = search needs
+cast-b : tie.Need-cast-b Inv-loop μ-loop
+cast-b c = omega (arith, c .shared-slice-known2 .given (c .before .before .before .loop .i))
 
-returns : tie.Need-returns
-returns c =
-    sign-wide (ending (c .before .before .before .before)) (c .before .before .if1 .taken)
-    (ltb-true _ _ (c .before .if2 .taken))
-    (ltb-true _ _ (c .if3 .taken))
+add-next : tie.Need-add-next Inv-loop μ-loop
+add-next c = search needs
 
-mul-bits : tie.Need-mul-bits
-mul-bits c = omega (arith, over c)
+mul-bits : tie.Need-mul-bits Inv-loop μ-loop
+mul-bits c = omega (arith, plus c .0)
 
-add-bits : tie.Need-add-bits
-add-bits c = omega (arith, over c)
+add-bits : tie.Need-add-bits Inv-loop μ-loop
+add-bits c = omega (arith, plus c .0)
 
-of-bits-requires : tie.Need-of-bits-requires
+of-bits-requires : tie.Need-of-bits-requires Inv-loop μ-loop
 of-bits-requires c κs = search needs
 
-returns-2 : tie.Need-returns-2
-returns-2 c =
-    made _ _ _ _ (c .of-bits .ok) (c .of-bits .ensures)
-    (sign-plus (ending (c .before .before .before .before)) (c .before .if4 .taken) (over (c .before)))
+returns : tie.Need-returns Inv-loop μ-loop
+returns c = made _ _ _ _ (c .of-bits .ok) (c .of-bits .ensures) (plus (c .before) .1)
 
-sub-under : tie.Need-sub-under
-sub-under c = omega (arith, ending (c .before .before .before) .digit)
+sub-under : tie.Need-sub-under Inv-loop μ-loop
+sub-under c = search needs
 
-mul-under : tie.Need-mul-under
-mul-under c = omega (arith, below c .0)
+mul-under : tie.Need-mul-under Inv-loop μ-loop
+mul-under c = omega (arith, minus c .0)
 
-sub-under-2 : tie.Need-sub-under-2
-sub-under-2 c = omega (arith, below c .1)
+sub-under-2 : tie.Need-sub-under-2 Inv-loop μ-loop
+sub-under-2 c = omega (arith, minus c .1)
 
-sub-bits : tie.Need-sub-bits
-sub-bits c = omega (arith, below c .0)
+sub-bits : tie.Need-sub-bits Inv-loop μ-loop
+sub-bits c = omega (arith, minus c .0)
 
-add-bits-2 : tie.Need-add-bits-2
-add-bits-2 c = omega (arith, below c .1)
+add-bits-2 : tie.Need-add-bits-2 Inv-loop μ-loop
+add-bits-2 c = omega (arith, minus c .1)
 
-of-bits-requires-2 : tie.Need-of-bits-requires-2
+of-bits-requires-2 : tie.Need-of-bits-requires-2 Inv-loop μ-loop
 of-bits-requires-2 c κs = search needs
 
-enum-told : tie.Need-enum-told
-enum-told c = search needs
+returns-2 : tie.Need-returns-2 Inv-loop μ-loop
+returns-2 c = made _ _ _ _ (c .of-bits2 .ok) (c .of-bits2 .ensures) (minus (c .before) .2)
 
-enum-told-2 : tie.Need-enum-told-2
-enum-told-2 c = search needs
+mul-low : tie.Need-mul-low Inv-loop μ-loop
+mul-low c = omega (arith, turn c .0)
 
-returns-3 : tie.Need-returns-3
+add-low : tie.Need-add-low Inv-loop μ-loop
+add-low c = omega (arith, turn c .0)
+
+mul-weight : tie.Need-mul-weight Inv-loop μ-loop
+mul-weight c = omega (arith, turn c .1)
+
+loop-less : tie.Need-loop-less Inv-loop μ-loop
+loop-less c = search needs
+
+loop-again : tie.Need-loop-again Inv-loop μ-loop
+loop-again c = turn c .2
+
+shared-slice-read-tenth : tie.Need-shared-slice-read-tenth Inv-loop μ-loop
+shared-slice-read-tenth c = search needs
+
+of-bits-requires-3 : tie.Need-of-bits-requires-3 Inv-loop μ-loop
+of-bits-requires-3 c κs = search needs
+
+add-end : tie.Need-add-end Inv-loop μ-loop
+add-end c = search needs
+
+returns-3 : tie.Need-returns-3 Inv-loop μ-loop
 returns-3 c =
-    made _ _ _ _ (c .of-bits2 .ok) (c .of-bits2 .ensures)
-    (sign-minus (ending (c .before .before .before .before)) (c .before .if4 .left)
-    (below (c .before) .0)
-    (below (c .before) .1))
+    let b = c .before .before .before in
+    made _ _ _ _ (c .of-bits3 .ok) (c .of-bits3 .ensures)
+    (signed-tenth-clear _ _ _ _ _ (b .before .before .loop .inv) (b .if4 .taken) (weighs b) (c .before .if5 .taken))
 
-returns-4 : tie.Need-returns-4
-returns-4 c = sign-short _ _ (told-short _ _ _ (c .before .before .groups-at .ensures) (c .enum-told .given .1))
+add-bits-3 : tie.Need-add-bits-3 Inv-loop μ-loop
+add-bits-3 c = omega (arith, set c .0)
 
-returns-5 : tie.Need-returns-5
-returns-5 c = sign-long _ _ (told-wide _ _ _ (c .before .before .groups-at .ensures) (c .enum-told2 .given .1))
+of-bits-requires-4 : tie.Need-of-bits-requires-4 Inv-loop μ-loop
+of-bits-requires-4 c κs = search needs
+
+add-end-2 : tie.Need-add-end-2 Inv-loop μ-loop
+add-end-2 c = search needs
+
+returns-4 : tie.Need-returns-4 Inv-loop μ-loop
+returns-4 c = made _ _ _ _ (c .of-bits4 .ok) (c .of-bits4 .ensures) (set (c .before) .1)
+
+returns-5 : tie.Need-returns-5 Inv-loop μ-loop
+returns-5 c =
+    let b = c .before .before .before in
+    signed-tenth-wide _ _ _ _ _ (b .before .before .loop .inv) (b .if4 .taken) (weighs b) (c .before .if5 .left)
+    (c .if6 .left)
+
+returns-6 : tie.Need-returns-6 Inv-loop μ-loop
+returns-6 c = signed-ended _ _ _ _ _ (c .before .before .loop .inv) (c .if4 .left)
 
 pub signed-at-spec : {M : Type 1} → statement M
 signed-at-spec =
     tie.close
     (tie.spec
-    groups-at-requires
-    enum-known-low
-    returns
+    Inv-loop
+    μ-loop
+    loop-holds
+    shared-slice-read-b
+    cast-b
+    add-next
     mul-bits
     add-bits
     of-bits-requires
-    returns-2
+    returns
     sub-under
     mul-under
     sub-under-2
     sub-bits
     add-bits-2
     of-bits-requires-2
-    enum-told
-    enum-told-2
+    returns-2
+    mul-low
+    add-low
+    mul-weight
+    loop-less
+    loop-again
+    shared-slice-read-tenth
+    of-bits-requires-3
+    add-end
     returns-3
+    add-bits-3
+    of-bits-requires-4
+    add-end-2
     returns-4
-    returns-5)
+    returns-5
+    returns-6)

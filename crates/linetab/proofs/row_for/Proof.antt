@@ -1,136 +1,57 @@
--- `linetab::row_for` meets its contract: from every state of the loop on the answer is the one from the start.
+-- `linetab::row_for` meets its contract: both ways answer so, and the quick one is taken where the header suits it.
 -- Assumes nothing.
-use Prim.Native.Nat.{suc, _-_}
-use mathlib.Core.Path.{_≡_, refl, sym, _∙_}
+use Prim.Native.Nat.{_%_, _^_}
+use mathlib.Core.Path.{ap}
+use borrow.Author.Tests.{ltb-true}
 use native.Mathlib.Omega.{arith}
-use lib.ListN.{length}
-use Rattle.linetab.specs.Rows.{rowFrom, rowFor}
-use Rattle.linetab.proofs.Progress.{ok-ahead, row-ahead}
-use Rattle.linetab.proofs.Runs.{on-ok, on-row, on-past, on-end}
+use Rattle.linetab.proofs.Quickly.{suited}
 use borrow.Author.Needs.{needs}
 use Rattle.linetab.proofs.row_for.Statement.{statement}
 use Rattle.linetab.proofs.row_for.Tie as tie
 
-abbrev Inv-loop : tie.InvT-loop
-Inv-loop header ops addr before₀ state₀ before state =
-    rowFrom header ops addr before₀ state₀
-    ≡ rowFrom header ops addr before state
+range-of-requires : tie.Need-range-of-requires
+range-of-requires c κs = search needs
 
-abbrev μ-loop : tie.MeasureT-loop
-μ-loop header ops addr before₀ state₀ before state = suc (length ops) - state .at
+to-bits-requires : tie.Need-to-bits-requires
+to-bits-requires c κs = search needs
 
-loop-holds : tie.Need-loop-holds Inv-loop μ-loop
-loop-holds c = refl
+to-bits-requires-2 : tie.Need-to-bits-requires-2
+to-bits-requires-2 c κs = search needs
 
-run-op-requires : tie.Need-run-op-requires Inv-loop μ-loop
-run-op-requires c κs = search needs
+cast-quick-rows : tie.Need-cast-quick-rows
+cast-quick-rows c = search needs
 
-enum-known-after : tie.Need-enum-known-after Inv-loop μ-loop
-enum-known-after c = search needs
+quick-rows-requires : tie.Need-quick-rows-requires
+quick-rows-requires c κs =
+    let args = c .before .before .before .before .before .before .before .args in
+    let range-of = c .before .before .before .before .before .range-of in
+    let range = c .before .before .before .before .to-bits in
+    let low = c .to-bits2 in
+    let if1 = c .before .before .before .if1 in
+    let if2 = c .before .before .if2 in
+    suited (args .header) (search needs) (range-of .result) _ _ (range-of .ok) (range-of .ensures) (range .ensures)
+    (if1 .taken)
+    (omega (arith, ltb-true (range .result) 256 (if2 .taken)))
+    (ap (λ x. x % 2 ^ 32) (low .ensures))
 
-loop-less : tie.Need-loop-less Inv-loop μ-loop
-loop-less c =
-    let loop = c .before .before .before .before .loop in
-    let run-op = c .before .before .before .run-op in
-    let arm = c .before .after in
-    omega (arith, ok-ahead _ _ (loop .state) _ (sym (run-op .ensures) ∙ arm .given .1))
+returns : tie.Need-returns
+returns c = c .quick-rows .ensures
 
-loop-again : tie.Need-loop-again Inv-loop μ-loop
-loop-again c =
-    let loop = c .before .before .before .before .loop in
-    let run-op = c .before .before .before .run-op in
-    let arm = c .before .after in
-    loop .inv ∙ on-ok _ _ _ _ _ _ (sym (run-op .ensures) ∙ arm .given .1)
+row-by-op-requires : tie.Need-row-by-op-requires
+row-by-op-requires c κs = search needs
 
-enum-known-after-2 : tie.Need-enum-known-after-2 Inv-loop μ-loop
-enum-known-after-2 c = search needs
-
-returns : tie.Need-returns Inv-loop μ-loop
-unfolding rowFor
-returns c =
-    let args = c .before .before .before .before .before .before .before .before .before .before .before .args in
-    let loop = c .before .before .before .before .before .before .before .before .before .loop in
-    let run-op = c .before .before .before .before .before .before .before .before .run-op in
-    let arm = c .before .before .before .before .before .before .after2 in
-    sym (loop .inv ∙ on-past _ _ (args .addr) _ _ _ (sym (run-op .ensures) ∙ arm .given .1) (c .if1 .taken))
-
-loop-less-2 : tie.Need-loop-less-2 Inv-loop μ-loop
-loop-less-2 c =
-    let loop = c .before .before .before .before .before .before .before .before .before .loop in
-    let run-op = c .before .before .before .before .before .before .before .before .run-op in
-    let arm = c .before .before .before .before .before .before .after2 in
-    omega (arith, row-ahead _ _ (loop .state) _ (sym (run-op .ensures) ∙ arm .given .1))
-
-loop-again-2 : tie.Need-loop-again-2 Inv-loop μ-loop
-loop-again-2 c =
-    let loop = c .before .before .before .before .before .before .before .before .before .loop in
-    let run-op = c .before .before .before .before .before .before .before .before .run-op in
-    let arm = c .before .before .before .before .before .before .after2 in
-    loop .inv ∙ on-row _ _ _ _ _ _ (sym (run-op .ensures) ∙ arm .given .1) (c .if1 .left)
-
-enum-told : tie.Need-enum-told Inv-loop μ-loop
-enum-told c = search needs
-
-ending-requires : tie.Need-ending-requires Inv-loop μ-loop
-ending-requires c κs = search needs
-
-returns-2 : tie.Need-returns-2 Inv-loop μ-loop
-unfolding rowFor
-returns-2 c =
-    let loop = c .before .before .before .before .before .loop in
-    let run-op = c .before .before .before .before .run-op in
-    let arm = c .before .before .enum-told in
-    c .ending .ensures ∙ sym (loop .inv ∙ on-end _ _ _ _ (loop .state) _ (sym (run-op .ensures) ∙ arm .given .1) tt)
-
-enum-told-2 : tie.Need-enum-told-2 Inv-loop μ-loop
-enum-told-2 c = search needs
-
-ending-requires-2 : tie.Need-ending-requires-2 Inv-loop μ-loop
-ending-requires-2 c κs = search needs
-
-returns-3 : tie.Need-returns-3 Inv-loop μ-loop
-unfolding rowFor
-returns-3 c =
-    let loop = c .before .before .before .before .before .loop in
-    let run-op = c .before .before .before .before .run-op in
-    let arm = c .before .before .enum-told2 in
-    c .ending2 .ensures ∙ sym (loop .inv ∙ on-end _ _ _ _ (loop .state) _ (sym (run-op .ensures) ∙ arm .given .1) tt)
-
-enum-told-3 : tie.Need-enum-told-3 Inv-loop μ-loop
-enum-told-3 c = search needs
-
-ending-requires-3 : tie.Need-ending-requires-3 Inv-loop μ-loop
-ending-requires-3 c κs = search needs
-
-returns-4 : tie.Need-returns-4 Inv-loop μ-loop
-unfolding rowFor
-returns-4 c =
-    let loop = c .before .before .before .before .before .loop in
-    let run-op = c .before .before .before .before .run-op in
-    let arm = c .before .before .enum-told3 in
-    c .ending3 .ensures ∙ sym (loop .inv ∙ on-end _ _ _ _ (loop .state) _ (sym (run-op .ensures) ∙ arm .given .1) tt)
+returns-2 : tie.Need-returns-2
+returns-2 c = c .row-by-op .ensures
 
 pub row-for-spec : {M : Type 1} → statement M
 row-for-spec =
     tie.close
     (tie.spec
-    Inv-loop
-    μ-loop
-    loop-holds
-    run-op-requires
-    enum-known-after
-    loop-less
-    loop-again
-    enum-known-after-2
+    range-of-requires
+    to-bits-requires
+    to-bits-requires-2
+    cast-quick-rows
+    quick-rows-requires
     returns
-    loop-less-2
-    loop-again-2
-    enum-told
-    ending-requires
-    returns-2
-    enum-told-2
-    ending-requires-2
-    returns-3
-    enum-told-3
-    ending-requires-3
-    returns-4)
+    row-by-op-requires
+    returns-2)

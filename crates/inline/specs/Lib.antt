@@ -1,0 +1,14 @@
+pub mod Tree
+pub mod Frames
+pub mod Fits
+pub mod Paths
+pub mod Head
+pub mod Judge
+pub mod Skip
+pub mod Store
+pub mod Walk
+pub mod Block
+pub mod Torn
+pub mod Said
+pub mod Reads
+pub mod Examples

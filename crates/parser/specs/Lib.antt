@@ -1,0 +1,5 @@
+pub mod Numbers
+pub mod Header
+pub mod Search
+pub mod Entries
+pub mod Items
