@@ -1,12 +1,10 @@
 // The frames of every inline block of a GSYM file at the middle address of its symbol: the unchanged Rust against the
 // static library, same process, same input. Modes as in line.rs; `check` takes every edge of every range and one below.
-mod file;
+mod shared;
 
-use file::blocks;
-use file::Block;
 use oracle::gsym::facade;
-use std::hint::black_box;
-use std::time::Instant;
+use shared::blocks;
+use shared::Block;
 
 #[repr(C)]
 struct BlockAnswer {
@@ -90,11 +88,6 @@ fn rattle_pass(all: &[Block]) -> u64 {
         .sum()
 }
 
-fn median(mut times: Vec<f64>) -> f64 {
-    times.sort_by(f64::total_cmp);
-    times[times.len() / 2]
-}
-
 fn main() {
     let args: Vec<String> = std::env::args().collect();
     let file = std::fs::read(&args[1]).unwrap();
@@ -115,21 +108,7 @@ fn main() {
             }
             println!("{} blocks, {cases} answers compared, 0 differ ({deep} by document 01: a node on level 65)", all.len());
         }
-        "time" => {
-            let passes: usize = args[3].parse().unwrap();
-            assert_eq!(rust_pass(&all), rattle_pass(&all));
-            let (mut r, mut q) = (Vec::new(), Vec::new());
-            for _ in 0..passes {
-                let t = Instant::now();
-                black_box(rust_pass(black_box(&all)));
-                r.push(t.elapsed().as_secs_f64());
-                let t = Instant::now();
-                black_box(rattle_pass(black_box(&all)));
-                q.push(t.elapsed().as_secs_f64());
-            }
-            let (r, q) = (median(r), median(q));
-            println!("time, median of {passes} passes: Rust {:.2} ms, this {:.2} ms, ratio {:.3}", r * 1e3, q * 1e3, q / r);
-        }
+        "time" => shared::measure(args[3].parse().unwrap(), || rust_pass(&all), || rattle_pass(&all)),
         "rust" => println!("{}", rust_pass(&all)),
         "rattle" => println!("{}", rattle_pass(&all)),
         other => panic!("no mode {other}"),

@@ -1,13 +1,11 @@
 // The row of every line block of a GSYM file at the middle address of its symbol: the unchanged Rust against the
 // static library, same process, same input. `line FILE check` compares the answers, also at both ends of each symbol;
 // `line FILE time PASSES` prints medians; `line FILE rust` and `line FILE rattle` make one pass, for counting instructions.
-mod file;
+mod shared;
 
-use file::blocks;
-use file::Block;
 use oracle::gsym::facade;
-use std::hint::black_box;
-use std::time::Instant;
+use shared::blocks;
+use shared::Block;
 
 #[repr(C)]
 #[derive(Clone, Copy, PartialEq, Debug)]
@@ -44,11 +42,6 @@ fn rattle_pass(all: &[Block]) -> u64 {
     all.iter().map(|b| rattle(b, b.symbol + b.size / 2).line as u64).sum()
 }
 
-fn median(mut times: Vec<f64>) -> f64 {
-    times.sort_by(f64::total_cmp);
-    times[times.len() / 2]
-}
-
 fn main() {
     let args: Vec<String> = std::env::args().collect();
     let file = std::fs::read(&args[1]).unwrap();
@@ -64,20 +57,7 @@ fn main() {
             }
             println!("{} blocks, {cases} rows compared, 0 differ", all.len());
         }
-        "time" => {
-            let passes: usize = args[3].parse().unwrap();
-            let (mut r, mut q) = (Vec::new(), Vec::new());
-            for _ in 0..passes {
-                let t = Instant::now();
-                black_box(rust_pass(black_box(&all)));
-                r.push(t.elapsed().as_secs_f64());
-                let t = Instant::now();
-                black_box(rattle_pass(black_box(&all)));
-                q.push(t.elapsed().as_secs_f64());
-            }
-            let (r, q) = (median(r), median(q));
-            println!("time, median of {passes} passes: Rust {:.2} ms, this {:.2} ms, ratio {:.3}", r * 1e3, q * 1e3, q / r);
-        }
+        "time" => shared::measure(args[3].parse().unwrap(), || rust_pass(&all), || rattle_pass(&all)),
         "rust" => println!("{}", rust_pass(&all)),
         "rattle" => println!("{}", rattle_pass(&all)),
         other => panic!("no mode {other}"),

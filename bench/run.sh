@@ -22,19 +22,27 @@ count() { # instructions of one pass, less those of reading the file and finding
 # the Rust as a whole module, and with run_op compiled into the one loop that calls it
 for build in whole one; do
     case $build in
-        whole) flags="" ;;
-        one) flags="-C codegen-units=1 --cfg one_caller" ;;
+        whole) flags="" name="whole module" ;;
+        one) flags="-C codegen-units=1 --cfg one_caller" name="one caller" ;;
     esac
     ORACLE_FLAGS="$flags" sh tests/oracle/build.sh "$tmp/$build"
-    rustc --edition 2021 -C opt-level=3 -L "$tmp/$build" --extern "oracle=$tmp/$build/liboracle.rlib" \
-        -L target/staticlib -l static=reader_c -o "$tmp/line_$build" bench/line.rs
-    echo
-    echo "Line blocks, the Rust built as: $build ($([ $build = whole ] && echo 'whole module' || echo 'one caller'))"
-    "$tmp/line_$build" "$tmp/vmlinux" check
-    "$tmp/line_$build" "$tmp/vmlinux" time "$passes"
-    if command -v valgrind >/dev/null 2>&1; then
-        r=$(count "$tmp/line_$build" rust)
-        q=$(count "$tmp/line_$build" rattle)
-        echo "instructions of one pass: Rust $r, this $q, ratio $(awk "BEGIN { printf \"%.3f\", $q / $r }")"
-    fi
+    for kind in line inline; do
+        program=$tmp/${kind}_$build
+        rustc --edition 2021 -C opt-level=3 -L "$tmp/$build" --extern "oracle=$tmp/$build/liboracle.rlib" \
+            -L target/staticlib -l static=reader_c -o "$program" "bench/$kind.rs"
+        echo
+        echo "$kind blocks, the Rust built as: $name"
+        "$program" "$tmp/vmlinux" check
+        "$program" "$tmp/vmlinux" time "$passes"
+        if command -v valgrind >/dev/null 2>&1; then
+            r=$(count "$program" rust)
+            q=$(count "$program" rattle)
+            echo "instructions of one pass: Rust $r, this $q, ratio $(awk "BEGIN { printf \"%.3f\", $q / $r }")"
+        fi
+    done
 done
+
+rustc --edition 2021 -O -L target/staticlib -l static=reader_c -o "$tmp/stack" bench/stack.rs
+echo
+"$tmp/stack" 16384 open
+"$tmp/stack" 16384 closed

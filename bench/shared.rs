@@ -1,4 +1,7 @@
-// The blocks of a GSYM file, by the layout alone: for the bench and the comparison, which judge what is in them.
+// What the bench programs share: the blocks of a GSYM file, by the layout alone, and the clock.
+use std::hint::black_box;
+use std::time::Instant;
+
 pub struct Block<'a> {
     pub symbol: u64,
     pub size: u64,
@@ -29,4 +32,26 @@ pub fn blocks(file: &[u8], kind: usize) -> Vec<Block<'_>> {
         }
     }
     out
+}
+
+fn median(mut times: Vec<f64>) -> f64 {
+    times.sort_by(f64::total_cmp);
+    times[times.len() / 2]
+}
+
+// Runs a pass of the Rust and one of the static library in turn, and prints the medians and their ratio.
+pub fn measure(passes: usize, rust: impl Fn() -> u64, rattle: impl Fn() -> u64) {
+    assert_eq!(rust(), rattle());
+    let time = |pass: &dyn Fn() -> u64| {
+        let start = Instant::now();
+        black_box(pass());
+        start.elapsed().as_secs_f64()
+    };
+    let (mut r, mut q) = (Vec::new(), Vec::new());
+    for _ in 0..passes {
+        r.push(time(&rust));
+        q.push(time(&rattle));
+    }
+    let (r, q) = (median(r), median(q));
+    println!("time, median of {passes} passes: Rust {:.2} ms, this {:.2} ms, ratio {:.3}", r * 1e3, q * 1e3, q / r);
 }
