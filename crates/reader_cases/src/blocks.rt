@@ -84,7 +84,7 @@ fn said_frame(block: &[u8], symbol: Address, addr: Address, index: u64) -> Said 
 }
 
 // The block of the symbol p at the address q: with room for r frames, or its frame number r.
-pub fn of_blocks(kind: u8, block: &[u8], p: u64, q: u64, r: u64) -> Said {
+pub(crate) fn of_blocks(kind: u8, block: &[u8], p: u64, q: u64, r: u64) -> Said {
     match kind {
         b'B' => said_block(block, Address(p), Address(q), r),
         b'F' => said_frame(block, Address(p), Address(q), r),

@@ -23,7 +23,7 @@ pub struct Said {
     pub d: u64,
 }
 
-pub fn value(a: u64, b: u64) -> Said {
+pub(crate) fn value(a: u64, b: u64) -> Said {
     Said {
         tag: b'v',
         a,
@@ -33,7 +33,7 @@ pub fn value(a: u64, b: u64) -> Said {
     }
 }
 
-pub fn only(tag: u8) -> Said {
+pub(crate) fn only(tag: u8) -> Said {
     Said {
         tag,
         a: 0,
@@ -165,7 +165,7 @@ fn of_signed(kind: u8, p: u64, q: u64) -> Said {
 }
 
 // What the leaf of a kind answers.
-pub fn answer(kind: u8, bytes: &[u8], p: u64, q: u64, r: u64) -> Said {
+pub(crate) fn answer(kind: u8, bytes: &[u8], p: u64, q: u64, r: u64) -> Said {
     match kind {
         b'b' | b'h' | b'w' | b'd' | b'r' | b'u' | b's' => at_place(kind, bytes, p as usize),
         b't' | b'n' | b'p' | b'8' | b'l' => of_strings(kind, bytes, p as usize, q as usize, r),

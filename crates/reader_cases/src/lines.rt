@@ -100,7 +100,7 @@ fn said_line(r: LineRead) -> Said {
 }
 
 // The header, opcode q of the program for the symbol p, or the row for the address q of the symbol p.
-pub fn of_lines(kind: u8, block: &[u8], p: u64, q: u64) -> Said {
+pub(crate) fn of_lines(kind: u8, block: &[u8], p: u64, q: u64) -> Said {
     match kind {
         b'H' => said_header(linetab::parse(block, 0)),
         b'o' => said_nth(block, Address(p), q),

@@ -105,7 +105,7 @@ fn of_opened(kind: u8, file: &[u8], tables: Tables, p: u64, q: u64) -> Said {
 
 // A file that opens: the entry of the address p, entry p, row p of the file table, or item q of entry p. One that does
 // not: 'r' with the refusal's number, or that there is none of what was asked for.
-pub fn of_tables(kind: u8, file: &[u8], p: u64, q: u64) -> Said {
+pub(crate) fn of_tables(kind: u8, file: &[u8], p: u64, q: u64) -> Said {
     match parser::parse_header(file) {
         Opened::Is(tables) => of_opened(kind, file, tables, p, q),
         Opened::Refused(number) => match kind {

@@ -10,19 +10,19 @@ pub struct Word {
 }
 
 // The byte at a place; past the end it is a newline.
-pub fn byte(s: &[u8], at: usize) -> u8 {
+pub(crate) fn byte(s: &[u8], at: usize) -> u8 {
     if at < s.len() { s[at] } else { b'\n' }
 }
 
 // The place after `at`, or `at` at the end.
-pub fn after(s: &[u8], at: usize) -> usize
+pub(crate) fn after(s: &[u8], at: usize) -> usize
     ensures { λ r. ⌜ at ≤ r ⌝ }
 {
     if at < s.len() { at + 1 } else { at }
 }
 
 // The value of a hexadecimal digit, or 16 for any other byte.
-pub fn digit(b: u8) -> u8
+pub(crate) fn digit(b: u8) -> u8
     ensures { λ r. ⌜ r ≤ 16 ⌝ }
 {
     if b < b'0' {
@@ -47,7 +47,7 @@ fn wide(x: u8) -> u64
 }
 
 // The place of the first byte b from `at` on, or the end.
-pub fn find(s: &[u8], at: usize, b: u8) -> usize
+pub(crate) fn find(s: &[u8], at: usize, b: u8) -> usize
     ensures { λ r. ⌜ (at ≤ r) × (at ≤ length (now (s .entry)) → r ≤ length (now (s .entry))) ⌝ }
 {
     let mut i = at;
@@ -73,7 +73,7 @@ fn digits_end(s: &[u8], at: usize) -> usize {
 }
 
 // The number at `at`, its last sixteen digits.
-pub fn number(s: &[u8], at: usize) -> Word {
+pub(crate) fn number(s: &[u8], at: usize) -> Word {
     let end = digits_end(s, at);
     let mut value: u64 = 0;
     let mut i = at;
@@ -93,7 +93,7 @@ fn pair(high: u8, low: u8) -> u8 {
 }
 
 // Writes the bytes at `at` to the start of `out`, as many as it holds, and answers how many.
-pub fn bytes_into(s: &[u8], at: usize, out: &mut [u8]) -> usize
+pub(crate) fn bytes_into(s: &[u8], at: usize, out: &mut [u8]) -> usize
     ensures { λ r. ⌜ Counts r (now (out .exit)) ⌝ }
 {
     let end = digits_end(s, at);
