@@ -144,6 +144,46 @@ fn shape(width: u8, base: u64, entries: &[u64]) -> Shape {
     }
 }
 
+// The entries that fit document 01's words: not above, and the last or the next one above; none if the first is above.
+fn fitting(entries: &[u64], wanted: u64) -> Vec<usize> {
+    let fits = |i: usize| entries[i] <= wanted && (i + 1 == entries.len() || wanted < entries[i + 1]);
+    (0..entries.len()).filter(|&i| entries[0] <= wanted && fits(i)).collect()
+}
+
+// A file of tables alone.
+fn tables(width: u8, base: u64, entries: &[u64]) -> Vec<u8> {
+    write(&Shape { data: vec![], files: vec![], strings: vec![], ..shape(width, base, entries) })
+}
+
+fn falling_tables(o: &mut Out) {
+    let top = u64::MAX;
+    o.remark("outside the domain, answered by document 01: falling tables where one entry alone fits");
+    for (width, base, entries, addr) in [
+        (1, 0, vec![1, 9, 5], 9),
+        (1, 0, vec![9, 5, 1], 9),
+        (1, 0x4000, vec![7, 7, 2, 2, 7], 0x4007),
+        (1, 0, vec![3, 3, 9, 9, 4, 4], 9),
+        (1, 0, vec![3, 3, 9, 9, 4, 4], 3),
+        (2, 0, vec![0x100, 0x300, 0x200], 0x1ff),
+        (2, 7, vec![2, 8, 8, 5, 9], 15),
+        (4, top - 0x20, vec![0, 0x20, 0x10], top),
+        (4, 0, vec![5, 0x1_0000, 0x2_0000, 0x8000], 0x7fff),
+        (4, 0, vec![0xffff_ffff, 0, 0xffff_ffff, 5], 1 << 32),
+        (8, 0, vec![0, 1 << 40, 1 << 20, 1 << 41], 1 << 40),
+        (8, 0, vec![1, top, 0], top),
+    ] {
+        let fits = fitting(&entries, addr - base);
+        assert_eq!(fits.len(), 1, "{entries:x?} at {addr:x}");
+        o.case('I', &tables(width, base, &entries), addr, 0, 'v', [fits[0] as u64, base + entries[fits[0]], 0]);
+    }
+    o.remark("outside the domain, several entries fit: the one that this reader's own search by halving settles");
+    for (entries, addr, i) in [(vec![1, 9, 5], 6, 0), (vec![1, 9, 5, 8], 8, 3), (vec![0, 6, 2, 8, 3], 5, 2)] {
+        let fits = fitting(&entries, addr);
+        assert!(fits.len() > 1 && fits.contains(&i), "{entries:x?} at {addr:x}");
+        o.case('I', &tables(2, 0, &entries), addr, 0, 'v', [i as u64, entries[i], 0]);
+    }
+}
+
 fn main() {
     let mut o = Out(String::new());
     let top = u64::MAX;
@@ -262,5 +302,6 @@ fn main() {
     for addr in [0, 1, 5, 8] {
         o.case('I', &falling, addr, 0, '-', [0; 3]);
     }
+    falling_tables(&mut o);
     print!("{}", o.0);
 }
