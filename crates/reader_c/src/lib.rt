@@ -1,11 +1,69 @@
 // Parts of the reader for programs that compare and measure them from C or Rust: each function here only hands its
 // arguments on and lays the answer out as C has it. What a host should call is another crate's business.
+use leb128::Signed;
+use leb128::Unsigned;
 use linetab::LineRead;
 use types::Address;
 ghost use mathlib.Core.Path.{_≡_};
+ghost use Rattle.leb128.specs.Answers.{unsignedAt, signedAt};
 ghost use Rattle.linetab.specs.Rows.{lineRow};
 ghost use Rattle.inline.specs.Block.{Lists};
+ghost use Rattle.reader_c.specs.Laid.{numberless, laidUnsigned, laidSigned};
 ghost use Rattle.reader_c.specs.Laid.{address, rowless, laidLine, listedAs};
+
+// A LEB128 number. tag 0: its value (a signed one as its 64 bits) and the place after it; 1: it ended short; 2: it is too
+// wide. Where there is no value the other fields are 0.
+#[repr(C)]
+pub struct NumberAnswer {
+    pub value: u64,
+    pub next: usize,
+    pub tag: u32,
+}
+
+fn without_number(tag: u32) -> NumberAnswer
+    ensures { λ r. ⌜ r ≡ numberless tag ⌝ }
+{
+    NumberAnswer {
+        value: 0,
+        next: 0,
+        tag,
+    }
+}
+
+// The unsigned number at a place: `leb128::unsigned_at`.
+#[no_mangle]
+pub extern "C" fn gsym_unsigned(bytes: &[u8], at: usize) -> NumberAnswer
+    ensures { λ r. ⌜ r ≡ laidUnsigned (unsignedAt (now (bytes .entry)) at) ⌝ }
+{
+    match leb128::unsigned_at(bytes, at) {
+        Unsigned::Value { value, next } => NumberAnswer {
+            value,
+            next,
+            tag: 0,
+        },
+        Unsigned::Short => without_number(1),
+        Unsigned::Wide => without_number(2),
+    }
+}
+
+// The signed number at a place: `leb128::signed_at`.
+#[no_mangle]
+pub extern "C" fn gsym_signed(bytes: &[u8], at: usize) -> NumberAnswer
+    ensures { λ r. ⌜ r ≡ laidSigned (signedAt (now (bytes .entry)) at) ⌝ }
+{
+    match leb128::signed_at(bytes, at) {
+        Signed::Value { value, next } => {
+            let bits = int64::to_bits(value);
+            NumberAnswer {
+                value: bits,
+                next,
+                tag: 0,
+            }
+        }
+        Signed::Short => without_number(1),
+        Signed::Wide => without_number(2),
+    }
+}
 
 // The row of an address. tag 0: this row; 1: there is none; 2: the header ended short; 3: a number of it is too
 // wide. Where there is no row the other fields are 0.

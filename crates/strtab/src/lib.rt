@@ -26,7 +26,7 @@ pub enum TextRead {
 }
 
 // How long a string of the table is, or that there is none.
-enum Len {
+pub enum Len {
     Spans(usize),
     Nothing,
 }

@@ -1,0 +1,53 @@
+-- `resolver::lookup_plain` meets its contract: where the address lands, the stages come to the whole lookup.
+-- Assumes nothing.
+use mathlib.Core.Path.{sym, _∙_}
+use Rattle.resolver.proofs.Plainly.{plain-refused, plain-row, plain-only}
+use Rattle.resolver.proofs.Landings.{landed}
+use borrow.Author.Needs.{needs}
+use Rattle.resolver.proofs.lookup_plain.Statement.{statement}
+use Rattle.resolver.proofs.lookup_plain.Tie as tie
+
+land-requires : tie.Need-land-requires
+land-requires c κs = search needs
+
+enum-known-tables : tie.Need-enum-known-tables
+enum-known-tables c = search needs
+
+with-row-requires : tie.Need-with-row-requires
+with-row-requires c κs =
+    landed _ _ _ _ (sym (c .before .before .before .before .land .ensures) ∙ c .before .before .tables .given .1) .within
+
+plain-requires : tie.Need-plain-requires
+plain-requires c κs = search needs
+
+enum-known-n : tie.Need-enum-known-n
+enum-known-n c = search needs
+
+refused-requires : tie.Need-refused-requires
+refused-requires c κs = search needs
+
+returns : tie.Need-returns
+returns c =
+    c .with-row .ensures ∙ plain-row _ _ _ _ (sym (c .before .before .before .before .before .land .ensures) ∙ c .before .before .before .tables .given .1) _ (c .before .if1 .taken)
+
+returns-2 : tie.Need-returns-2
+returns-2 c =
+    c .plain .ensures ∙ plain-only _ _ _ _ (sym (c .before .before .before .before .before .land .ensures) ∙ c .before .before .before .tables .given .1) _ (c .before .if1 .left)
+
+returns-3 : tie.Need-returns-3
+returns-3 c =
+    c .refused .ensures ∙ plain-refused _ _ _ _ (sym (c .before .before .before .before .land .ensures) ∙ c .before .before .n .given .1)
+
+pub lookup-plain-spec : {M : Type 1} → statement M
+lookup-plain-spec =
+    tie.close
+    (tie.spec
+    land-requires
+    enum-known-tables
+    with-row-requires
+    plain-requires
+    enum-known-n
+    refused-requires
+    returns
+    returns-2
+    returns-3)

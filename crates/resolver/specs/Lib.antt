@@ -1,0 +1,9 @@
+pub mod Data
+pub mod Book
+pub mod Heard
+pub mod Says
+pub mod Spell
+pub mod Lookup
+pub mod Stages
+pub mod Rows
+pub mod Examples
