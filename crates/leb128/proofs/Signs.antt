@@ -1,6 +1,6 @@
 -- What `signed_at` answers, from what it has read: one law for each way out.
 -- Assumes nothing.
-use Prim.Native.Nat.{ℕ, zero, suc, _+_, _-_, _*_, _^_, _≤_, _<_}
+use Prim.Native.Nat.{ℕ, zero, suc, _+_, _-_, _*_, _%_, _^_, _≤_, _<_}
 use mathlib.Core.List.{List}
 use mathlib.Core.Logic.{_⊎_, inl, inr, ⊎-elim}
 use mathlib.Core.Path.{_≡_, ap, sym, _∙_}
@@ -160,7 +160,7 @@ module _ (s : List ℕ) (at low w i : ℕ) (h : Sofar s at low w i) where
       other : w ≡ 2 ^ 63 → ⊥
       other e = omega (arith, e, q)
 
-      pub signed-plus :
+      signed-plus :
           getD s i 0 < 64 →
           (low + getD s i 0 * w < 2 ^ 63)
           × (z.Value (toZ w64 (low + getD s i 0 * w)) (i + 1) ≡ signedAt s at)
@@ -169,7 +169,7 @@ module _ (s : List ℕ) (at low w i : ℕ) (h : Sofar s at low w i) where
           let f = sign-room e (inr (inr other)) t in
           (f, sign-plus e t f)
 
-      pub signed-minus :
+      signed-minus :
           64 ≤ getD s i 0 → getD s i 0 < 128 →
           let least = (128 - getD s i 0) * w in
           (least ≤ 2 ^ 63)
@@ -179,6 +179,37 @@ module _ (s : List ℕ) (at low w i : ℕ) (h : Sofar s at low w i) where
           let e = ends s at low w i h l y in
           let f = under-room e (inr (inr other)) t in
           (f .0, f .1, sign-minus e t (f .0) (f .1))
+
+      -- of either sign: the last seven bits count from -64 on
+      pub signed-last :
+          getD s i 0 < 128 →
+          let above = low + (getD s i 0 + 64) % 128 * w in
+          (above < 2 ^ 63)
+          × (64 * w < 2 ^ 63)
+          × ((bits : ℕ) → bits < 2 ^ 64 → (bits + 64 * w) % 2 ^ 64 ≡ above →
+          z.Value (toZ w64 bits) (i + 1) ≡ signedAt s at)
+      signed-last y =
+          let b = getD s i 0 in
+          let e = ends s at low w i h l y in
+          let early = weight-early (e .before) w (e .power) (e .few) other .1 in
+          let room = digit-room ((b + 64) % 128) w low 128 (omega arith) (e .small) in (
+            omega (arith, early, room),
+            omega (arith, early, e .small),
+            λ bits f r.
+                ⊎-elim
+                (λ (t : b < 64).
+                let seven : (b + 64) % 128 * w ≡ b * w + 64 * w = ap (λ x. x * w) (omega arith) ∙ add-mul b 64 w in
+                let v : bits ≡ low + b * w = omega (arith, early, e .small, seven, r, signed-plus t .0) in
+                ap (λ x. z.Value (toZ w64 x) (i + 1)) v ∙ signed-plus t .1)
+                (λ (t : 64 ≤ b).
+                let m = signed-minus t y in
+                let one : b * w ≡ (b + 64) % 128 * w + 64 * w =
+                ap (λ x. x * w) (omega arith) ∙ add-mul ((b + 64) % 128) 64 w in
+                let v : bits ≡ 2 ^ 64 - 1 - ((128 - b) * w - low) + 1 =
+                omega (arith, early, e .small, one, parts e, r, m .0, m .1) in
+                ap (λ x. z.Value (toZ w64 x) (i + 1)) v ∙ m .2)
+                (lt-or-ge b 64),
+          )
 
     -- the tenth byte
     module _ (q : 2 ^ 63 ≤ w) where

@@ -104,16 +104,12 @@ pub fn signed_at(s: &[u8], at: usize) -> Signed
     while i < s.len() && weight < TENTH {
         let b = s[i] as u64;
         let next = i + 1;
-        // The bit 64 of the last byte is the sign.
-        if b < 64 {
-            let bits = low + b * weight;
-            let value = int64::of_bits(bits);
-            return Signed::Value { value, next };
-        }
         if b < 128 {
-            // How far below zero it is, from 1 to 2^62.
-            let under = (128 - b) * weight - low;
-            let bits = 0xffff_ffff_ffff_ffff - under + 1;
+            // The bit 64 of the last byte is the sign: its seven bits count from -64 to 63. Told by arithmetic, since a
+            // branch on the sign is hard to foresee.
+            let seven = (b + 64) % 128;
+            let above = low + seven * weight;
+            let bits = std::num::wrapping_sub_u64(above, 64 * weight);
             let value = int64::of_bits(bits);
             return Signed::Value { value, next };
         }

@@ -1,6 +1,7 @@
 mod Headers
 mod Opcodes
 mod Tables
+mod Factor
 mod Quickly
 pub mod Progress
 pub mod Runs

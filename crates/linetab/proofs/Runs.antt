@@ -81,14 +81,19 @@ module _ (h : LineTableHeader) (ops : List ℕ) (addr : Address) where
     pub on-ok : (q : LineState) → stepOf h ops t ≡ Ok q → rowFrom h ops addr b t ≡ rowFrom h ops addr b q
     on-ok q e = by (Ok q) e
 
+    pub on-made :
+        (q : LineState) → stepOf h ops t ≡ NewRow q →
+        rowFrom h ops addr b t ≡ pick (ltb (addr .0) (q .row .addr .0)) b (rowFrom h ops addr (Row (q .row)) q)
+    on-made q e = by (NewRow q) e
+
     pub on-row :
         (q : LineState) → stepOf h ops t ≡ NewRow q → q .row .addr .0 ≤ addr .0 →
         rowFrom h ops addr b t ≡ rowFrom h ops addr (Row (q .row)) q
-    on-row q e l = by (NewRow q) e ∙ ap (λ x. pick x b (rowFrom h ops addr (Row (q .row)) q)) (le-ltb _ _ l)
+    on-row q e l = on-made q e ∙ ap (λ x. pick x b (rowFrom h ops addr (Row (q .row)) q)) (le-ltb _ _ l)
 
     pub on-past :
         (q : LineState) → stepOf h ops t ≡ NewRow q → addr .0 < q .row .addr .0 → rowFrom h ops addr b t ≡ b
-    on-past q e l = by (NewRow q) e ∙ ap (λ x. pick x b (rowFrom h ops addr (Row (q .row)) q)) (lt-ltb _ _ l)
+    on-past q e l = on-made q e ∙ ap (λ x. pick x b (rowFrom h ops addr (Row (q .row)) q)) (lt-ltb _ _ l)
 
     pub on-end : (x : RunResult) → stepOf h ops t ≡ x → Ends x → rowFrom h ops addr b t ≡ atEnd b (t .row)
     on-end (Ok q) e z = absurd z

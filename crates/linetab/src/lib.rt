@@ -14,13 +14,14 @@ use opcode::advance_pc;
 use opcode::range_of;
 use opcode::set_file;
 use opcode::special;
+use quick::Plan;
 use quick::quick_rows;
 use types::Address;
 use types::FileIndex;
 use types::LineNumber;
 ghost use mathlib.Core.Path.{_≡_};
 ghost use Rattle.linetab.specs.Machine.{headerOf, startRow, stepOf};
-ghost use Rattle.linetab.specs.Rows.{atEnd, rowFor, lineRow};
+ghost use Rattle.linetab.specs.Rows.{atEnd, rowFrom, rowFor, lineRow};
 
 // End of the line table.
 const END_SEQUENCE: u8 = 0;
@@ -148,7 +149,7 @@ fn ending(before: RowFound, row: LineTableRow) -> RowFound
 }
 
 // The row of `addr` in the program from `start` on: the one before the first row above `addr`, none if that is the
-// first made. A range that fits a byte goes the quick way, where bytes are divided; all others go opcode by opcode.
+// first made. A range that fits a byte goes the quick way, row by row; all others go opcode by opcode.
 pub fn row_for(header: LineTableHeader, ops: &[u8], start: LineState, addr: Address) -> RowFound
     ensures { λ r. ⌜ r ≡ rowFor header (now (ops .entry)) start addr ⌝ }
 {
@@ -157,16 +158,23 @@ pub fn row_for(header: LineTableHeader, ops: &[u8], start: LineState, addr: Addr
     if 0 < range && range < 256 {
         let min = int64::to_bits(header.min_delta);
         let low = min % 0x1_0000_0000;
-        return quick_rows(header, ops, start, addr, range as u32, low);
+        let factor = 65536 / range + 1;
+        return quick_rows(header, ops, start, addr, Plan { range, factor, low });
     }
-    row_by_op(header, ops, start, addr)
+    row_by_op(header, ops, RowFound::Nothing, start, addr)
 }
 
-// The same opcode by opcode, at any range.
-fn row_by_op(header: LineTableHeader, ops: &[u8], start: LineState, addr: Address) -> RowFound
-    ensures { λ r. ⌜ r ≡ rowFor header (now (ops .entry)) start addr ⌝ }
+// The same opcode by opcode, at any range, and also where rows were made before `start`: `last` is the last of them.
+fn row_by_op(
+    header: LineTableHeader,
+    ops: &[u8],
+    last: RowFound,
+    start: LineState,
+    addr: Address,
+) -> RowFound
+    ensures { λ r. ⌜ r ≡ rowFrom header (now (ops .entry)) addr last start ⌝ }
 {
-    let mut before = RowFound::Nothing;
+    let mut before = last;
     let mut state = start;
     loop {
         match run_op(header, ops, state) {

@@ -4,7 +4,7 @@ use Prim.Native.Nat.{suc, _-_}
 use mathlib.Core.Path.{_≡_, refl, sym, _∙_}
 use native.Mathlib.Omega.{arith}
 use lib.ListN.{length}
-use Rattle.linetab.specs.Rows.{rowFrom, rowFor}
+use Rattle.linetab.specs.Rows.{rowFrom}
 use Rattle.linetab.proofs.Progress.{ok-ahead, row-ahead}
 use Rattle.linetab.proofs.Runs.{on-ok, on-row, on-past, on-end}
 use borrow.Author.Needs.{needs}
@@ -46,7 +46,6 @@ enum-known-after-2 : tie.Need-enum-known-after-2 Inv-loop μ-loop
 enum-known-after-2 c = search needs
 
 returns : tie.Need-returns Inv-loop μ-loop
-unfolding rowFor
 returns c =
     let args = c .before .before .before .before .before .before .before .before .before .before .before .args in
     let loop = c .before .before .before .before .before .before .before .before .before .loop in
@@ -75,7 +74,6 @@ ending-requires : tie.Need-ending-requires Inv-loop μ-loop
 ending-requires c κs = search needs
 
 returns-2 : tie.Need-returns-2 Inv-loop μ-loop
-unfolding rowFor
 returns-2 c =
     let loop = c .before .before .before .before .before .loop in
     let run-op = c .before .before .before .before .run-op in
@@ -89,7 +87,6 @@ ending-requires-2 : tie.Need-ending-requires-2 Inv-loop μ-loop
 ending-requires-2 c κs = search needs
 
 returns-3 : tie.Need-returns-3 Inv-loop μ-loop
-unfolding rowFor
 returns-3 c =
     let loop = c .before .before .before .before .before .loop in
     let run-op = c .before .before .before .before .run-op in
@@ -103,7 +100,6 @@ ending-requires-3 : tie.Need-ending-requires-3 Inv-loop μ-loop
 ending-requires-3 c κs = search needs
 
 returns-4 : tie.Need-returns-4 Inv-loop μ-loop
-unfolding rowFor
 returns-4 c =
     let loop = c .before .before .before .before .before .loop in
     let run-op = c .before .before .before .before .run-op in
