@@ -1,7 +1,8 @@
 #!/bin/sh
 # All tests, from nothing: the kit's version, the layout of the sources, the promises' page, every proof, every
-# must-fail edit and every program. The last line printed is rt's own 'N passed, M failed'; the exit status is 0
-# only where nothing failed. Needs the Rattle toolchain and no network.
+# must-fail edit and every program, then what hosts get and the comparison with the Rust. The last line printed is
+# rt's own 'N passed, M failed'; the exit status is 0 only where nothing failed. Needs the Rattle toolchain and no
+# network.
 set -u
 cd "$(dirname "$0")" || exit 2
 
@@ -29,8 +30,10 @@ if [ "$status" = 0 ]; then
     sh tests/edits.sh || status=1
     sh tests/replay.sh || status=1
     sh tests/vectors/check.sh || status=1
+    sh tests/hosts.sh || status=1
     # 3: what it compares with is not on this machine, which it says
     sh tests/oracle/corpus.sh || [ $? = 3 ] || status=1
+    sh tests/oracle/compare.sh || [ $? = 3 ] || status=1
 fi
 tail -n 1 "$tmp/log"
 exit "$status"

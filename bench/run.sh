@@ -19,6 +19,11 @@ count() { # instructions of one pass, less those of reading the file and finding
         sed -n 's/.*Collected : //p'
 }
 
+count_lookups() { # FILE SIDE KIND
+    valgrind --tool=callgrind --callgrind-out-file="$tmp/cg" --toggle-collect="*${2}_pass*" "$tmp/lookup" "$1" "$2" "$3" 2>&1 |
+        sed -n 's/.*Collected : //p'
+}
+
 # the Rust as a whole module, and with run_op compiled into the one loop that calls it
 for build in whole one; do
     case $build in
@@ -41,6 +46,32 @@ for build in whole one; do
         fi
     done
 done
+
+# whole lookups, through the bindings that Rust hosts use; the Rust as a whole module
+rt staticlib gsym_c >"$tmp/rt.log" 2>&1 || { tail -n 20 "$tmp/rt.log"; exit 1; }
+cp target/staticlib/libgsym_c.a "$tmp/libgsym.a"
+rustc --edition 2021 -C opt-level=3 --crate-type rlib --crate-name gsym -o "$tmp/libgsym.rlib" bindings/rust/src/lib.rs
+rustc --edition 2021 -C opt-level=3 -L "$tmp/whole" --extern "oracle=$tmp/whole/liboracle.rlib" -L "$tmp" \
+    --extern "gsym=$tmp/libgsym.rlib" -l static=gsym -o "$tmp/lookup" bench/lookup.rs
+for file in "$tmp/vmlinux" "$corpus/cpp-gcc.gsym" "$corpus/rs-calc.gsym"; do
+    echo
+    echo "lookups in $(basename "$file"), 100,000 addresses"
+    "$tmp/lookup" "$file" check
+    "$tmp/lookup" "$file" time "$passes"
+    command -v valgrind >/dev/null 2>&1 || continue
+    for kind in name "code info" inlining; do
+        r=$(count_lookups "$file" rust "$kind")
+        q=$(count_lookups "$file" rattle "$kind")
+        echo "$kind: instructions of 10,000 lookups: Rust $r, this $q, ratio $(awk "BEGIN { printf \"%.3f\", $q / $r }")"
+    done
+done
+
+echo
+echo "nanoseconds a lookup by name: entries, Rust, this"
+"$tmp/lookup" scale "$passes" | tee "$tmp/scale"
+if command -v python3 >/dev/null 2>&1; then
+    python3 bench/plot.py <"$tmp/scale" >bench/results/entries.svg && echo "plotted in bench/results/entries.svg"
+fi
 
 rustc --edition 2021 -O -L target/staticlib -l static=reader_c -o "$tmp/stack" bench/stack.rs
 echo

@@ -1,4 +1,5 @@
-// What the bench programs share: the blocks of a GSYM file, by the layout alone, and the clock.
+// What the bench programs share: the symbols and the blocks of a GSYM file, by the layout alone, and the clock.
+#![allow(dead_code)]
 use std::hint::black_box;
 use std::time::Instant;
 
@@ -39,8 +40,8 @@ fn median(mut times: Vec<f64>) -> f64 {
     times[times.len() / 2]
 }
 
-// Runs a pass of the Rust and one of the static library in turn, and prints the medians and their ratio.
-pub fn measure(passes: usize, rust: impl Fn() -> u64, rattle: impl Fn() -> u64) {
+// The medians of both sides in seconds, a pass of the Rust and one of the static library in turn.
+pub fn medians(passes: usize, rust: impl Fn() -> u64, rattle: impl Fn() -> u64) -> (f64, f64) {
     assert_eq!(rust(), rattle());
     let time = |pass: &dyn Fn() -> u64| {
         let start = Instant::now();
@@ -52,6 +53,45 @@ pub fn measure(passes: usize, rust: impl Fn() -> u64, rattle: impl Fn() -> u64) 
         r.push(time(&rust));
         q.push(time(&rattle));
     }
-    let (r, q) = (median(r), median(q));
+    (median(r), median(q))
+}
+
+// Prints them and their ratio.
+pub fn measure(passes: usize, rust: impl Fn() -> u64, rattle: impl Fn() -> u64) {
+    let (r, q) = medians(passes, rust, rattle);
     println!("time, median of {passes} passes: Rust {:.2} ms, this {:.2} ms, ratio {:.3}", r * 1e3, q * 1e3, q / r);
+}
+
+// The address and the size of every symbol.
+pub fn symbols(file: &[u8]) -> Vec<(u64, u64)> {
+    let u32_at = |at: usize| u32::from_le_bytes(file[at..at + 4].try_into().unwrap()) as usize;
+    let base = u64::from_le_bytes(file[8..16].try_into().unwrap());
+    let width = file[6] as usize;
+    let count = u32_at(16);
+    let offsets = (48 + count * width + 3) / 4 * 4;
+    let each = |i: usize| {
+        let mut entry = [0; 8];
+        entry[..width].copy_from_slice(&file[48 + i * width..][..width]);
+        (base + u64::from_le_bytes(entry), u32_at(u32_at(offsets + i * 4)) as u64)
+    };
+    (0..count).map(each).collect()
+}
+
+// Bytes at a place divisible by 8.
+pub struct Aligned {
+    words: Vec<u64>,
+    len: usize,
+}
+
+impl Aligned {
+    pub fn bytes(&self) -> &[u8] {
+        unsafe { std::slice::from_raw_parts(self.words.as_ptr().cast::<u8>(), self.len) }
+    }
+}
+
+pub fn aligned(file: Vec<u8>) -> Aligned {
+    let mut words = vec![0u64; file.len() / 8 + 1];
+    let bytes = unsafe { std::slice::from_raw_parts_mut(words.as_mut_ptr().cast::<u8>(), file.len()) };
+    bytes.copy_from_slice(&file);
+    Aligned { words, len: file.len() }
 }

@@ -117,6 +117,25 @@ pub fn with_file<T>(
     }
 }
 
+// A file that is opened once and looked up in many times, as the Rust's users do.
+#[cfg(not(one_caller))]
+pub struct Opened<'a>(super::resolver::GsymResolver<'a>);
+
+#[cfg(not(one_caller))]
+pub fn open(file: &[u8]) -> Option<Opened<'_>> {
+    super::resolver::GsymResolver::with_data(file).ok().map(Opened)
+}
+
+#[cfg(not(one_caller))]
+impl Opened<'_> {
+    #[inline(never)]
+    pub fn find(&self, addr: u64, code: bool, inlined: bool) -> Option<crate::symbolize::ResolvedSym<'_>> {
+        use crate::symbolize::FindSymOpts;
+        use crate::symbolize::Symbolize as _;
+        self.0.find_sym(addr, &FindSymOpts { code, inlined }).ok()?.ok()
+    }
+}
+
 // The refusal number of a header's fault: 2, 3 or 4.
 pub fn header_fault(file: &[u8]) -> Option<u8> {
     match super::parser::GsymContext::parse_header(file) {

@@ -22,3 +22,4 @@ pub mod ByPathsStep
 pub mod ByPaths
 pub mod ByPathsFits
 pub mod DemandByPaths
+pub mod CallLines

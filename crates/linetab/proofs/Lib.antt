@@ -6,3 +6,4 @@ mod Quickly
 pub mod Progress
 pub mod Runs
 pub mod Reach
+pub mod RowLines

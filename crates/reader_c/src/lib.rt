@@ -11,8 +11,8 @@ ghost use Rattle.inline.specs.Block.{Lists};
 ghost use Rattle.reader_c.specs.Laid.{numberless, laidUnsigned, laidSigned};
 ghost use Rattle.reader_c.specs.Laid.{address, rowless, laidLine, listedAs};
 
-// A LEB128 number. tag 0: its value (a signed one as its 64 bits) and the place after it; 1: it ended short; 2: it is too
-// wide. Where there is no value the other fields are 0.
+// A LEB128 number. tag 0: its value (a signed one as its 64 bits) and the place after it; 1: it ended short; 2: it is
+// too wide. Where there is no value the other fields are 0.
 #[repr(C)]
 pub struct NumberAnswer {
     pub value: u64,

@@ -1,12 +1,11 @@
 -- What is asked for decides: with both options the lookup is that with frames; else room doesn't matter, no records are
 -- written, and the answer is the plain one.
 -- Assumes nothing.
-use Prim.Native.Nat.{ℕ, _*_}
+use Prim.Native.Nat.{ℕ}
 use mathlib.Core.Bool.{Bool, true, false}
 use mathlib.Core.List.{List, [], _∷_}
-use mathlib.Core.Path.{_≡_, refl, sym, ap, subst, _∙_}
+use mathlib.Core.Path.{_≡_, refl, sym, ap, _∙_}
 use lib.Dec.{eqb}
-use lib.ListN.{length, take}
 use Rattle.reads.specs.Pick.{pick}
 use Rattle.types.specs.declared.Address.{Address}
 use Rattle.types.specs.declared.Answer.{Answer}
@@ -17,13 +16,11 @@ use Rattle.linetab.specs.declared.RowFound.the-variants as found
 use Rattle.linetab.specs.declared.LineRead.{LineRead}
 use Rattle.linetab.specs.declared.LineRead.the-variants as line
 use Rattle.linetab.specs.Rows.{lineRow}
-use Rattle.parser.specs.declared.Tables.{Tables}
-use Rattle.resolver.specs.declared.Entry.{Entry}
 use Rattle.resolver.specs.declared.landing.Landing.{Landing}
 use Rattle.resolver.specs.declared.landing.Landing.the-variants as land
 use Rattle.resolver.specs.Data.{Data, Piece}
 use Rattle.resolver.specs.Book.{Book, bookOf}
-use Rattle.resolver.specs.Heard.{Ask, ask, Heard, afterLine, hearRow, hearFrames, hear}
+use Rattle.resolver.specs.Heard.{ask, Heard, afterLine, hearRow, hearFrames, hear}
 use Rattle.resolver.specs.Says.{SiteRead, is, no, siteOf, withFrames, afterHeard, sayMore}
 use Rattle.resolver.specs.Spell.{Looked, spell}
 use Rattle.resolver.specs.Lookup.{lookupOf}

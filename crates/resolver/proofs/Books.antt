@@ -3,10 +3,10 @@
 -- Assumes nothing.
 use Prim.Native.Nat.{ℕ, zero, suc, _+_, _*_, _≤_, _<_}
 use mathlib.Core.Bool.{Bool, true, false}
-use mathlib.Core.List.{List, [], _∷_}
+use mathlib.Core.List.{List}
 use mathlib.Core.Path.{_≡_, refl, ap, sym, _∙_}
 use mathlib.Core.Logic.{⊎-elim}
-use lib.ListN.{take, drop}
+use lib.ListN.{drop}
 use lib.Seq.{drop-drop}
 use native.Mathlib.Omega.{arith}
 use Rattle.reads.specs.Pick.{pick}

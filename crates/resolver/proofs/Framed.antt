@@ -4,7 +4,7 @@ use Prim.Native.Nat.{ℕ, _+_}
 use mathlib.Core.Bool.{Bool, true, false}
 use mathlib.Core.List.{List, [], _∷_, _++_, map}
 use mathlib.Core.Path.{_≡_, refl, sym, ap, _∙_}
-use lib.ListN.{length, length-map}
+use lib.ListN.{length-map}
 use lib.Seq.{append-snoc}
 use Rattle.reads.specs.Pick.{pick}
 use Rattle.types.specs.declared.Address.{Address}
@@ -14,7 +14,6 @@ use Rattle.types.specs.declared.InlineFrame.{InlineFrame}
 use Rattle.linetab.specs.declared.RowFound.the-variants as found
 use Rattle.parser.specs.declared.Tables.{Tables}
 use Rattle.resolver.specs.declared.Entry.{Entry}
-use Rattle.resolver.specs.declared.Place.{Place}
 use Rattle.resolver.specs.declared.sites.CallRead.{CallRead}
 use Rattle.resolver.specs.declared.sites.CallRead.the-variants as call
 use Rattle.resolver.specs.Data.{Data, Piece, itemsAt}
@@ -22,7 +21,6 @@ use Rattle.resolver.specs.Book.{Book, bookOf, readsName}
 use Rattle.resolver.specs.Heard.{ask, Heard, known, fault, hear}
 use Rattle.resolver.specs.Says.{
   Site,
-  Call,
   SiteRead,
   is,
   no as noSite,

@@ -1,11 +1,11 @@
 -- The items of an entry after a row and frames known so far: each way that `code_in` goes on or out, on plain values.
 -- Assumes nothing.
-use Prim.Native.Nat.{ℕ, _+_, _-_, _*_, _/_, _<_, _≤_, min}
+use Prim.Native.Nat.{ℕ, _-_, _<_, _≤_}
 use mathlib.Core.Bool.{Bool, true, false}
 use mathlib.Core.List.{List, [], _∷_}
-use mathlib.Core.Path.{_≡_, refl, sym, ap, subst, _∙_}
+use mathlib.Core.Path.{_≡_, refl, subst, _∙_}
 use lib.Dec.{eqb}
-use lib.ListN.{length, take, drop}
+use lib.ListN.{length}
 use native.Mathlib.Omega.{arith}
 use borrow.Author.Tests.{eq-eqb, ne-eqb}
 use Rattle.reads.specs.Pick.{pick}
@@ -22,18 +22,7 @@ use Rattle.inline.proofs.Answers.{block-room}
 use Rattle.resolver.specs.declared.items.LineHeard.{LineHeard}
 use Rattle.resolver.specs.declared.items.LineHeard.the-variants as heard
 use Rattle.resolver.specs.Data.{Piece}
-use Rattle.resolver.specs.Heard.{
-  Ask,
-  ask,
-  Heard,
-  known,
-  fault,
-  afterLine,
-  afterBlock,
-  hearRow,
-  hearFrames,
-  hear,
-}
+use Rattle.resolver.specs.Heard.{Ask, Heard, known, fault, afterLine, afterBlock, hearRow, hearFrames, hear}
 use Rattle.resolver.specs.Stages.{asHeard, lineHeard}
 
 -- ---- what an item leaves alone

@@ -3,7 +3,7 @@
 use Prim.Native.Nat.{ℕ}
 use mathlib.Core.Bool.{Bool, true, false}
 use mathlib.Core.List.{List}
-use mathlib.Core.Path.{_≡_, refl, ap, sym, _∙_}
+use mathlib.Core.Path.{_≡_, refl, ap, sym}
 use Rattle.reads.specs.Pick.{pick}
 use Rattle.types.specs.declared.Address.{Address}
 use Rattle.types.specs.declared.Options.{Options}
@@ -26,7 +26,6 @@ use Rattle.parser.proofs.Places.{tables-within}
 use Rattle.resolver.specs.declared.Entry.{Entry}
 use Rattle.resolver.specs.declared.landing.EntryRead.{EntryRead}
 use Rattle.resolver.specs.declared.landing.EntryRead.the-variants as entry
-use Rattle.resolver.specs.declared.landing.Landing.{Landing}
 use Rattle.resolver.specs.declared.landing.Landing.the-variants as land
 use Rattle.resolver.specs.Data.{Data, is, asData, itemsAt, dataOf}
 use Rattle.resolver.specs.Book.{bookOf}

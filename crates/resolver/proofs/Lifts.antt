@@ -8,13 +8,11 @@ use lib.Seq.{sets, sets-eq, length-sets, length-take-le, take-at}
 use native.Mathlib.Omega.{arith}
 use Rattle.types.specs.declared.Text.{Text}
 use Rattle.types.specs.declared.Frame.{Frame}
-use Rattle.types.specs.declared.InlineFrame.{InlineFrame}
 use Rattle.inline.specs.Store.{frameAt}
 use Rattle.parser.specs.declared.Tables.{Tables}
 use Rattle.resolver.specs.declared.Place.{Place}
 use Rattle.resolver.specs.declared.sites.CallRead.{CallRead}
 use Rattle.resolver.specs.declared.sites.CallRead.the-variants as call
-use Rattle.resolver.specs.declared.rising.Risen.{Risen}
 use Rattle.resolver.specs.declared.rising.Risen.the-variants as risen
 use Rattle.resolver.specs.Stages.{record-of, placeIn, callAt}
 use Rattle.resolver.specs.Rows.{
@@ -22,7 +20,6 @@ use Rattle.resolver.specs.Rows.{
   flatFrames,
   framesFrom,
   PutsRow,
-  Lifted,
   lifted,
   no,
   thenLift,

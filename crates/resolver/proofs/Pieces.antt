@@ -10,7 +10,7 @@ use Rattle.parser.specs.declared.Item.{Item}
 use Rattle.parser.specs.declared.Item.the-variants as item
 use Rattle.parser.specs.Items.{itemAt}
 use Rattle.parser.proofs.Steps.{item-next}
-use Rattle.resolver.specs.Data.{Piece, Pieces, piece, before, afterItem, itemsWithin, itemsAt}
+use Rattle.resolver.specs.Data.{piece, before, afterItem, itemsWithin, itemsAt}
 
 module _ (file : List ℕ) where
   -- as long as more are allowed than bytes are left, it doesn't matter how many

@@ -5,7 +5,6 @@ use mathlib.Core.Bool.{Bool, true, false}
 use mathlib.Core.List.{List, []}
 use mathlib.Core.Path.{_≡_, refl, ap, sym, _∙_}
 use Rattle.types.specs.declared.Address.{Address}
-use Rattle.types.specs.declared.Answer.{Answer}
 use Rattle.types.specs.Refusal.{refusal}
 use Rattle.linetab.specs.declared.LineTableRow.{LineTableRow}
 use Rattle.linetab.specs.declared.RowFound.the-variants as found
@@ -24,7 +23,7 @@ use Rattle.resolver.specs.Spell.{spellText, spell}
 use Rattle.resolver.specs.Lookup.{lookupOf}
 use Rattle.resolver.specs.Stages.{spellRead, placeAt, rowHeard, rowIn, plainOptions, plainAnswer, answerWith}
 use Rattle.resolver.specs.Stages.{onPlace, onRow, rowRest, landingOf}
-use Rattle.resolver.proofs.Landings.{Landed, landed, not-landed}
+use Rattle.resolver.proofs.Landings.{landed, not-landed}
 use Rattle.resolver.proofs.Rowing.{Quiet, a-row, unread, quiet}
 
 -- ---- with a row

@@ -2,7 +2,7 @@
 -- Assumes nothing.
 use Prim.Native.Nat.{ℕ}
 use mathlib.Core.List.{List}
-use mathlib.Core.Path.{_≡_, refl, sym, _∙_}
+use mathlib.Core.Path.{_≡_, sym, _∙_}
 use Rattle.types.specs.declared.FileIndex.{FileIndex}
 use Rattle.types.specs.declared.LineNumber.{LineNumber}
 use Rattle.types.specs.declared.Text.{Text}

@@ -1,5 +1,5 @@
--- The row of an entry where no frames are wanted: what is heard then is a row and no frames, or that a line block's header
--- doesn't read; a row that is known stays, so the items behind it need not be read.
+-- The row of an entry where no frames are wanted: what is heard then is a row and no frames, or that a line block's
+-- header doesn't read; a row that is known stays, so the items behind it need not be read.
 -- Assumes nothing.
 use Prim.Native.Nat.{ℕ, _+_, _-_}
 use mathlib.Core.Bool.{Bool, true, false}

@@ -2,7 +2,7 @@
 -- the row and the frames known so far.
 -- Assumes nothing.
 use Prim.Native.Nat.{ℕ, _+_, _-_, _*_, _/_, _<_, _≤_, min}
-use mathlib.Core.Bool.{Bool, true, false}
+use mathlib.Core.Bool.{true}
 use mathlib.Core.List.{List, [], _∷_}
 use mathlib.Core.Path.{_≡_, refl, sym, ap, subst, _∙_}
 use lib.ListN.{length, take, drop}
@@ -11,7 +11,7 @@ use Rattle.types.specs.declared.Address.{Address}
 use Rattle.types.specs.declared.InlineFrame.{InlineFrame}
 use Rattle.linetab.specs.declared.RowFound.{RowFound}
 use Rattle.linetab.specs.declared.RowFound.the-variants as found
-use Rattle.inline.specs.Block.{Block, listed, refused, blockOf, framesOf, roomOf, Lists}
+use Rattle.inline.specs.Block.{blockOf, framesOf, roomOf, Lists}
 use Rattle.inline.specs.Store.{flat}
 use Rattle.inline.specs.declared.Listed.{Listed}
 use Rattle.inline.proofs.Answers.{number-zero, number-other, count-is, count-within}
@@ -21,10 +21,9 @@ use Rattle.parser.specs.Items.{itemAt}
 use Rattle.parser.proofs.Steps.{item-ahead, item-next}
 use Rattle.resolver.specs.declared.items.LineHeard.{LineHeard}
 use Rattle.resolver.specs.declared.items.LineHeard.the-variants as heard
-use Rattle.resolver.specs.declared.items.CodeRead.{CodeRead}
 use Rattle.resolver.specs.declared.items.CodeRead.the-variants as code
 use Rattle.resolver.specs.Data.{Piece, piece, itemsAt}
-use Rattle.resolver.specs.Heard.{Ask, ask, Heard, known, fault, afterBlock, hear}
+use Rattle.resolver.specs.Heard.{Ask, ask, known, fault, afterBlock, hear}
 use Rattle.resolver.specs.Stages.{lineHeard}
 use Rattle.resolver.specs.Rows.{framesFrom, asCode, heardFrames, heardIn, Hears}
 use Rattle.resolver.proofs.Pieces.{items-is, items-closed, items-torn}

@@ -1,6 +1,6 @@
 -- The whole lookup with frames from its stages: each way out of `with_frames` and of `lookup_frames`.
 -- Assumes nothing.
-use Prim.Native.Nat.{ℕ, _-_, _*_, _/_, _<_, _≤_, min}
+use Prim.Native.Nat.{ℕ, _-_, _*_, _/_, _≤_, min}
 use mathlib.Core.Bool.{true}
 use mathlib.Core.List.{List, []}
 use mathlib.Core.Path.{_≡_, refl, sym, ap, subst, _∙_}
@@ -8,7 +8,6 @@ use lib.ListN.{length, take, length-take}
 use native.Mathlib.Omega.{arith}
 use Rattle.types.specs.declared.Address.{Address}
 use Rattle.types.specs.declared.Answer.{Answer}
-use Rattle.types.specs.declared.InlineFrame.{InlineFrame}
 use Rattle.types.specs.Refusal.{refusal}
 use Rattle.linetab.specs.declared.LineTableRow.{LineTableRow}
 use Rattle.linetab.specs.declared.RowFound.{RowFound}
@@ -26,7 +25,6 @@ use Rattle.resolver.specs.declared.landing.Landing.{Landing}
 use Rattle.resolver.specs.declared.landing.Landing.the-variants as land
 use Rattle.resolver.specs.Data.{Piece, itemsAt}
 use Rattle.resolver.specs.Heard.{ask, Heard, known, fault}
-use Rattle.resolver.specs.Spell.{Looked, refusing}
 use Rattle.resolver.specs.Lookup.{lookupOf}
 use Rattle.resolver.specs.Stages.{placeAt, plainAnswer, answerWith, landingOf, allOptions}
 use Rattle.resolver.specs.Rows.{

@@ -1,5 +1,5 @@
--- What the items of an entry say at an address: a row and frames, or the first fault in list order (document 01, "Address
--- data list"). What reads a row never looks at frames, and the other way round.
+-- What the items of an entry say at an address: a row and frames, or the first fault in list order (document 01,
+-- "Address data list"). What reads a row never looks at frames, and the other way round.
 -- Assumes nothing.
 use Prim.Native.Nat.{ℕ}
 use mathlib.Core.Bool.{Bool, true, false}

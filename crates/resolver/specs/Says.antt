@@ -1,5 +1,5 @@
--- What an entry says at an address, with strings as offsets in the string table (document 01, from "If size is not 0" to
--- the end of "Putting the answer together"). No place of the file is in it.
+-- What an entry says at an address, with strings as offsets in the string table (document 01, from "If size is not 0"
+-- to the end of "Putting the answer together"). No place of the file is in it.
 -- Assumes nothing.
 use Prim.Native.Nat.{ℕ}
 use mathlib.Core.Bool.{Bool, true, false}

@@ -1,5 +1,5 @@
--- What is said, as the answer that a caller gets: an offset becomes a place, counted from the file's start, and a length;
--- zero where there is none. And the same with each text as its bytes.
+-- What is said, as the answer that a caller gets: an offset becomes a place, counted from the file's start, and a
+-- length; zero where there is none. And the same with each text as its bytes.
 -- Assumes nothing.
 use Prim.Native.Nat.{ℕ, _+_}
 use mathlib.Core.Bool.{Bool, true, false}

@@ -27,8 +27,8 @@ pub(crate) enum CallRead {
     Refused(u8),
 }
 
-// The position of a file index and a line. Refused: an index that isn't below the file count is 7, a directory or a file
-// that doesn't read is 8. The callers have opened the tables.
+// The position of a file index and a line. Refused: an index that isn't below the file count is 7, a directory or a
+// file that doesn't read is 8. The callers have opened the tables.
 pub(crate) fn site_at(file: &[u8], tables: Tables, index: FileIndex, line: LineNumber) -> PlaceRead
     requires { ⌜ Within (now file) tables ⌝ }
     ensures { λ r. ⌜ r ≡ placeAt (now (file .entry)) tables (index .0) (line .0) ⌝ }

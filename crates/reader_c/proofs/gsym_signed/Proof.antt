@@ -30,15 +30,18 @@ without-number-requires-2 c κs = search needs
 
 returns : tie.Need-returns
 returns c =
-    signed-laid _ _ _ _ _ (sym (c .before .before .value .given .1) ∙ c .before .before .before .before .signed-at .ensures) (c .to-bits .ensures)
+    signed-laid _ _ _ _ _ (sym (c .before .before .value .given .1)
+    ∙ c .before .before .before .before .signed-at .ensures) (c .to-bits .ensures)
 
 returns-2 : tie.Need-returns-2
 returns-2 c =
-    c .without-number .ensures ∙ ap laidSigned (sym (c .before .enum-told .given .1) ∙ c .before .before .before .signed-at .ensures)
+    c .without-number .ensures ∙ ap laidSigned (sym (c .before .enum-told .given .1)
+    ∙ c .before .before .before .signed-at .ensures)
 
 returns-3 : tie.Need-returns-3
 returns-3 c =
-    c .without-number2 .ensures ∙ ap laidSigned (sym (c .before .enum-told2 .given .1) ∙ c .before .before .before .signed-at .ensures)
+    c .without-number2 .ensures ∙ ap laidSigned (sym (c .before .enum-told2 .given .1)
+    ∙ c .before .before .before .signed-at .ensures)
 
 pub gsym-signed-spec : {M : Type 1} → statement M
 gsym-signed-spec =

@@ -30,11 +30,13 @@ returns c =
 
 returns-2 : tie.Need-returns-2
 returns-2 c =
-    c .without-number .ensures ∙ ap laidUnsigned (sym (c .before .enum-told .given .1) ∙ c .before .before .before .unsigned-at .ensures)
+    c .without-number .ensures ∙ ap laidUnsigned (sym (c .before .enum-told .given .1)
+    ∙ c .before .before .before .unsigned-at .ensures)
 
 returns-3 : tie.Need-returns-3
 returns-3 c =
-    c .without-number2 .ensures ∙ ap laidUnsigned (sym (c .before .enum-told2 .given .1) ∙ c .before .before .before .unsigned-at .ensures)
+    c .without-number2 .ensures ∙ ap laidUnsigned (sym (c .before .enum-told2 .given .1)
+    ∙ c .before .before .before .unsigned-at .ensures)
 
 pub gsym-unsigned-spec : {M : Type 1} → statement M
 gsym-unsigned-spec =

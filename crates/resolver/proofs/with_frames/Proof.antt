@@ -62,8 +62,8 @@ renamed-requires c κs = (
   omega (
     arith,
     count-room _ _ _ _ _ _ (c .before .before .before .before .before .before .before .before .before .before
-        .before .before .before .before .before .before .before .code-in .ensures) _ _ (c .before .before .before .before
-        .before .before .before .before .before .before .before .before .before .row .given .1),
+        .before .before .before .before .before .before .before .code-in .ensures) _ _ (c .before .before .before
+        .before .before .before .before .before .before .before .before .before .before .row .given .1),
     c .before .before .before
         .before .before .before .before .before .before .before .before .before .before .before .before .before .before
         .before .before .before .before .before .before .before .pre .1,

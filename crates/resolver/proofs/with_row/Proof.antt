@@ -41,19 +41,47 @@ refused-requires-2 c κs = search needs
 
 returns : tie.Need-returns
 returns c =
-    c .placed .ensures ∙ rest-placed _ _ (c .before .before .before .before .before .before .before .before .before .before .before .before .before .before .args .entry) (c .before .before .before .before .before .before .before .before .before .before .before .before .before .before .args .addr) _ refl _ refl _ (sym (c .before .before .before .before .before .before .before .before .row .given .1) ∙ c .before .before .before .before .before .before .before .before .before .before .row-in .ensures) _ (sym (c .before .before .at .given .1) ∙ c .before .before .before .before .site-at .ensures)
+    let far = c .before .before .before .before .before .before .before .before in
+    let args = far .before .before .before .before .before .before .args in
+    let row-in = far .before .before .row-in in
+    let row = far .row in
+    let site-at = c .before .before .before .before .site-at in
+    let position = c .before .before .at in
+    let placed = c .placed in
+    placed .ensures
+    ∙ rest-placed _ _ (args .entry) (args .addr) _ refl _ refl _ (sym (row .given .1) ∙ row-in .ensures) _
+    (sym (position .given .1) ∙ site-at .ensures)
 
 returns-2 : tie.Need-returns-2
 returns-2 c =
-    c .refused .ensures ∙ rest-refused _ _ (c .before .before .before .before .before .before .before .before .before .before .before .before .before .before .args .entry) (c .before .before .before .before .before .before .before .before .before .before .before .before .before .before .args .addr) _ refl _ refl _ (sym (c .before .before .before .before .before .before .before .before .row .given .1) ∙ c .before .before .before .before .before .before .before .before .before .before .row-in .ensures) _ (sym (c .before .before .n .given .1) ∙ c .before .before .before .before .site-at .ensures)
+    let far = c .before .before .before .before .before .before .before .before in
+    let args = far .before .before .before .before .before .before .args in
+    let row-in = far .before .before .row-in in
+    let row = far .row in
+    let site-at = c .before .before .before .before .site-at in
+    let n = c .before .before .n in
+    let refused = c .refused in
+    refused .ensures
+    ∙ rest-refused _ _ (args .entry) (args .addr) _ refl _ refl _ (sym (row .given .1) ∙ row-in .ensures) _
+    (sym (n .given .1) ∙ site-at .ensures)
 
 returns-3 : tie.Need-returns-3
 returns-3 c =
-    c .plain .ensures ∙ rest-none _ _ (c .before .before .before .before .before .before .before .args .entry) (c .before .before .before .before .before .before .before .args .addr) _ refl _ refl (sym (c .before .enum-told .given .1) ∙ c .before .before .before .row-in .ensures)
+    let args = c .before .before .before .before .before .before .before .args in
+    let row-in = c .before .before .before .row-in in
+    let enum-told = c .before .enum-told in
+    let plain = c .plain in
+    plain .ensures
+    ∙ rest-none _ _ (args .entry) (args .addr) _ refl _ refl (sym (enum-told .given .1) ∙ row-in .ensures)
 
 returns-4 : tie.Need-returns-4
 returns-4 c =
-    c .refused2 .ensures ∙ rest-unread _ _ (c .before .before .before .before .before .before .before .args .entry) (c .before .before .before .before .before .before .before .args .addr) _ refl _ refl (sym (c .before .enum-told2 .given .1) ∙ c .before .before .before .row-in .ensures)
+    let args = c .before .before .before .before .before .before .before .args in
+    let row-in = c .before .before .before .row-in in
+    let enum-told2 = c .before .enum-told2 in
+    let refused2 = c .refused2 in
+    refused2 .ensures
+    ∙ rest-unread _ _ (args .entry) (args .addr) _ refl _ refl (sym (enum-told2 .given .1) ∙ row-in .ensures)
 
 pub with-row-spec : {M : Type 1} → statement M
 with-row-spec =

@@ -32,19 +32,50 @@ enum-told-2 c = search needs
 
 returns : tie.Need-returns
 returns c =
-    entry-is _ _ _ (c .before .before .before .before .before .before .before .before .before .before .before .before .before .before .args .addr) _ (c .before .before .before .before .before .before .before .before .before .before .before .before .addr-at .ensures) _ (sym (c .before .before .before .before .before .before .before .before .before .before .before .addr-info .ensures) ∙ c .before .before .before .before .before .before .before .before .before .info .given .1) (sym (c .before .before .before .before .before .before .covers .ensures) ∙ c .before .before .before .before .before .if1 .taken) _ (sym (c .before .before .before .name-at .ensures) ∙ c .before .name .given .1)
+    let far = c .before .before .before .before .before .before .before .before in
+    let args = far .before .before .before .before .before .before .args in
+    let addr-at = far .before .before .before .before .addr-at in
+    let addr-info = far .before .before .before .addr-info in
+    let info = far .before .info in
+    let covers = c .before .before .before .before .before .before .covers in
+    let if1 = c .before .before .before .before .before .if1 in
+    let name-at = c .before .before .before .name-at in
+    let name = c .before .name in
+    entry-is _ _ _ (args .addr) _ (addr-at .ensures) _ (sym (addr-info .ensures) ∙ info .given .1)
+    (sym (covers .ensures) ∙ if1 .taken) _ (sym (name-at .ensures) ∙ name .given .1)
 
 returns-2 : tie.Need-returns-2
 returns-2 c =
-    entry-no-name _ _ _ (c .before .before .before .before .before .before .before .before .before .before .before .before .before .args .addr) _ (c .before .before .before .before .before .before .before .before .before .before .before .addr-at .ensures) _ (sym (c .before .before .before .before .before .before .before .before .before .before .addr-info .ensures) ∙ c .before .before .before .before .before .before .before .before .info .given .1) (sym (c .before .before .before .before .before .covers .ensures) ∙ c .before .before .before .before .if1 .taken) (sym (c .before .before .name-at .ensures) ∙ c .enum-told .given .1)
+    let far = c .before .before .before .before .before .before .before .before in
+    let args = far .before .before .before .before .before .args in
+    let addr-at = far .before .before .before .addr-at in
+    let addr-info = far .before .before .addr-info in
+    let info = far .info in
+    let covers = c .before .before .before .before .before .covers in
+    let if1 = c .before .before .before .before .if1 in
+    let name-at = c .before .before .name-at in
+    let enum-told = c .enum-told in
+    entry-no-name _ _ _ (args .addr) _ (addr-at .ensures) _ (sym (addr-info .ensures) ∙ info .given .1)
+    (sym (covers .ensures) ∙ if1 .taken) (sym (name-at .ensures) ∙ enum-told .given .1)
 
 returns-3 : tie.Need-returns-3
 returns-3 c =
-    entry-past _ _ _ (c .before .before .before .before .before .before .before .before .before .args .addr) _ (c .before .before .before .before .before .before .before .addr-at .ensures) _ (sym (c .before .before .before .before .before .before .addr-info .ensures) ∙ c .before .before .before .before .info .given .1) (sym (c .before .covers .ensures) ∙ c .if1 .left)
+    let args = c .before .before .before .before .before .before .before .before .before .args in
+    let addr-at = c .before .before .before .before .before .before .before .addr-at in
+    let addr-info = c .before .before .before .before .before .before .addr-info in
+    let info = c .before .before .before .before .info in
+    let covers = c .before .covers in
+    let if1 = c .if1 in
+    entry-past _ _ _ (args .addr) _ (addr-at .ensures) _ (sym (addr-info .ensures) ∙ info .given .1)
+    (sym (covers .ensures) ∙ if1 .left)
 
 returns-4 : tie.Need-returns-4
 returns-4 c =
-    entry-unread _ _ _ (c .before .before .before .before .before .args .addr) _ (c .before .before .before .addr-at .ensures) (sym (c .before .before .addr-info .ensures) ∙ c .enum-told2 .given .1)
+    let args = c .before .before .before .before .before .args in
+    let addr-at = c .before .before .before .addr-at in
+    let addr-info = c .before .before .addr-info in
+    let enum-told2 = c .enum-told2 in
+    entry-unread _ _ _ (args .addr) _ (addr-at .ensures) (sym (addr-info .ensures) ∙ enum-told2 .given .1)
 
 pub entry-of-spec : {M : Type 1} → statement M
 entry-of-spec =

@@ -35,19 +35,46 @@ enum-known-n-2 c = search needs
 
 returns : tie.Need-returns
 returns c =
-    land-entry _ (c .before .before .before .before .before .before .before .before .before .before .before .before .before .args .addr) _ (sym (c .before .before .before .before .before .before .before .before .before .before .before .parse-header .ensures) ∙ c .before .before .before .before .before .before .before .before .before .tables .given .1) _ _ (sym (c .before .before .before .before .before .before .before .find-addr .ensures) ∙ c .before .before .before .before .before .i .given .1) (sym (c .before .entry .given .1) ∙ c .before .before .before .entry-of .ensures)
+    let far = c .before .before .before .before .before .before .before .before in
+    let args = far .before .before .before .before .before .args in
+    let parse-header = far .before .before .before .parse-header in
+    let tables = far .before .tables in
+    let find-addr = c .before .before .before .before .before .before .before .find-addr in
+    let i = c .before .before .before .before .before .i in
+    let entry-of = c .before .before .before .entry-of in
+    let entry = c .before .entry in
+    land-entry _ (args .addr) _ (sym (parse-header .ensures) ∙ tables .given .1) _ _
+    (sym (find-addr .ensures) ∙ i .given .1) (sym (entry .given .1) ∙ entry-of .ensures)
 
 returns-2 : tie.Need-returns-2
 returns-2 c =
-    land-entry _ (c .before .before .before .before .before .before .before .before .before .before .before .before .before .args .addr) _ (sym (c .before .before .before .before .before .before .before .before .before .before .before .parse-header .ensures) ∙ c .before .before .before .before .before .before .before .before .before .tables .given .1) _ _ (sym (c .before .before .before .before .before .before .before .find-addr .ensures) ∙ c .before .before .before .before .before .i .given .1) (sym (c .before .n .given .1) ∙ c .before .before .before .entry-of .ensures)
+    let far = c .before .before .before .before .before .before .before .before in
+    let args = far .before .before .before .before .before .args in
+    let parse-header = far .before .before .before .parse-header in
+    let tables = far .before .tables in
+    let find-addr = c .before .before .before .before .before .before .before .find-addr in
+    let i = c .before .before .before .before .before .i in
+    let entry-of = c .before .before .before .entry-of in
+    let n = c .before .n in
+    land-entry _ (args .addr) _ (sym (parse-header .ensures) ∙ tables .given .1) _ _
+    (sym (find-addr .ensures) ∙ i .given .1) (sym (n .given .1) ∙ entry-of .ensures)
 
 returns-3 : tie.Need-returns-3
 returns-3 c =
-    land-unknown _ (c .before .before .before .before .before .before .before .before .args .addr) _ (sym (c .before .before .before .before .before .before .parse-header .ensures) ∙ c .before .before .before .before .tables .given .1) (sym (c .before .before .find-addr .ensures) ∙ c .enum-told .given .1)
+    let args = c .before .before .before .before .before .before .before .before .args in
+    let parse-header = c .before .before .before .before .before .before .parse-header in
+    let tables = c .before .before .before .before .tables in
+    let find-addr = c .before .before .find-addr in
+    let enum-told = c .enum-told in
+    land-unknown _ (args .addr) _ (sym (parse-header .ensures) ∙ tables .given .1)
+    (sym (find-addr .ensures) ∙ enum-told .given .1)
 
 returns-4 : tie.Need-returns-4
 returns-4 c =
-    land-refused _ (c .before .before .before .before .before .args .addr) _ (sym (c .before .before .before .parse-header .ensures) ∙ c .before .n2 .given .1)
+    let args = c .before .before .before .before .before .args in
+    let parse-header = c .before .before .before .parse-header in
+    let n2 = c .before .n2 in
+    land-refused _ (args .addr) _ (sym (parse-header .ensures) ∙ n2 .given .1)
 
 pub land-spec : {M : Type 1} → statement M
 land-spec =

@@ -55,9 +55,8 @@ add-k c =
     omega (
       arith,
       c .before .before .before .before .before .before .before .before .before .before .loop-test .taken,
-      c
-          .before .before .before .before .before .before .before .before .before .before .before .before .before .before
-          .before .fits .count,
+      c .before .before .before .before .before .before .before .before .before .before .before .before .before
+          .before .before .fits .count,
     )
 
 loop-less : tie.Need-loop-less Inv-loop μ-loop

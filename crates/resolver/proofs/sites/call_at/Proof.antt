@@ -53,15 +53,32 @@ enum-told c = search needs
 
 returns : tie.Need-returns
 returns c =
-    call-is _ _ (c .before .before .before .before .before .before .before .before .before .before .before .before .before .before .before .before .before .pre .0) _ _ (sym (c .before .before .before .before .before .before .before .before .before .before .name-at .ensures) ∙ c .before .before .before .before .before .before .before .before .name .given .1) _ (sym (c .before .before .before .before .at .given .1) ∙ c .before .before .before .before .before .before .site-at .ensures)
+    let far = c .before .before .before .before .before .before .before .before in
+    let pre = far .before .before .before .before .before .before .before .before .before .pre in
+    let name-at = far .before .before .name-at in
+    let name = far .name in
+    let site-at = c .before .before .before .before .before .before .site-at in
+    let position = c .before .before .before .before .at in
+    call-is _ _ (pre .0) _ _ (sym (name-at .ensures) ∙ name .given .1) _
+    (sym (position .given .1) ∙ site-at .ensures)
 
 returns-2 : tie.Need-returns-2
 returns-2 c =
-    call-no-site _ _ (c .before .before .before .before .before .before .before .before .before .before .before .before .before .before .pre .0) _ _ (sym (c .before .before .before .before .before .before .before .name-at .ensures) ∙ c .before .before .before .before .before .name .given .1) _ (sym (c .before .n .given .1) ∙ c .before .before .before .site-at .ensures)
+    let far = c .before .before .before .before .before .before .before .before in
+    let pre = far .before .before .before .before .before .before .pre in
+    let name-at = c .before .before .before .before .before .before .before .name-at in
+    let name = c .before .before .before .before .before .name in
+    let site-at = c .before .before .before .site-at in
+    let n = c .before .n in
+    call-no-site _ _ (pre .0) _ _ (sym (name-at .ensures) ∙ name .given .1) _
+    (sym (n .given .1) ∙ site-at .ensures)
 
 returns-3 : tie.Need-returns-3
 returns-3 c =
-    call-no-name _ _ (c .before .before .before .before .before .before .before .before .before .pre .0) _ (sym (c .before .before .name-at .ensures) ∙ c .enum-told .given .1)
+    let pre = c .before .before .before .before .before .before .before .before .before .pre in
+    let name-at = c .before .before .name-at in
+    let enum-told = c .enum-told in
+    call-no-name _ _ (pre .0) _ (sym (name-at .ensures) ∙ enum-told .given .1)
 
 pub call-at-spec : {M : Type 1} → statement M
 call-at-spec =

@@ -1,4 +1,4 @@
--- `resolver::sites::site_at` meets its contract: what is read of the file table and of the string table picks the case of `placeAt`.
+-- `resolver::sites::site_at` meets its contract: what is read of the two tables picks the case of `placeAt`.
 -- Assumes nothing.
 use mathlib.Core.Path.{sym, _∙_}
 use Rattle.resolver.proofs.Positions.{site-none, site-no-dir, site-no-file, site-is}
@@ -35,19 +35,51 @@ enum-told-3 c = search needs
 
 returns : tie.Need-returns
 returns c =
-    site-is _ _ (c .before .before .before .before .before .before .before .before .before .before .before .before .before .before .before .before .pre) _ (c .before .before .before .before .before .before .before .before .before .before .before .before .before .before .before .before .args .line) _ (sym (c .before .before .before .before .before .before .before .before .before .before .before .before .before .before .file-info .ensures) ∙ c .before .before .before .before .before .before .before .before .before .before .before .before .info .given .1) _ (sym (c .before .before .before .before .before .before .before .text-at .ensures) ∙ c .before .before .before .before .before .dir .given .1) _ (sym (c .before .before .before .text-at2 .ensures) ∙ c .before .name .given .1)
+    let far = c .before .before .before .before .before .before .before .before in
+    let pre = far .before .before .before .before .before .before .before .before .pre in
+    let args = far .before .before .before .before .before .before .before .before .args in
+    let file-info = far .before .before .before .before .before .before .file-info in
+    let info = far .before .before .before .before .info in
+    let text-at = c .before .before .before .before .before .before .before .text-at in
+    let dir = c .before .before .before .before .before .dir in
+    let text-at2 = c .before .before .before .text-at2 in
+    let name = c .before .name in
+    site-is _ _ pre _ (args .line) _ (sym (file-info .ensures) ∙ info .given .1) _
+    (sym (text-at .ensures) ∙ dir .given .1) _ (sym (text-at2 .ensures) ∙ name .given .1)
 
 returns-2 : tie.Need-returns-2
 returns-2 c =
-    site-no-file _ _ (c .before .before .before .before .before .before .before .before .before .before .before .before .before .before .before .pre) _ (c .before .before .before .before .before .before .before .before .before .before .before .before .before .before .before .args .line) _ (sym (c .before .before .before .before .before .before .before .before .before .before .before .before .before .file-info .ensures) ∙ c .before .before .before .before .before .before .before .before .before .before .before .info .given .1) _ (sym (c .before .before .before .before .before .before .text-at .ensures) ∙ c .before .before .before .before .dir .given .1) (sym (c .before .before .text-at2 .ensures) ∙ c .enum-told .given .1)
+    let far = c .before .before .before .before .before .before .before .before in
+    let pre = far .before .before .before .before .before .before .before .pre in
+    let args = far .before .before .before .before .before .before .before .args in
+    let file-info = far .before .before .before .before .before .file-info in
+    let info = far .before .before .before .info in
+    let text-at = c .before .before .before .before .before .before .text-at in
+    let dir = c .before .before .before .before .dir in
+    let text-at2 = c .before .before .text-at2 in
+    let enum-told = c .enum-told in
+    site-no-file _ _ pre _ (args .line) _ (sym (file-info .ensures) ∙ info .given .1) _
+    (sym (text-at .ensures) ∙ dir .given .1) (sym (text-at2 .ensures) ∙ enum-told .given .1)
 
 returns-3 : tie.Need-returns-3
 returns-3 c =
-    site-no-dir _ _ (c .before .before .before .before .before .before .before .before .before .before .before .pre) _ (c .before .before .before .before .before .before .before .before .before .before .before .args .line) _ (sym (c .before .before .before .before .before .before .before .before .before .file-info .ensures) ∙ c .before .before .before .before .before .before .before .info .given .1) (sym (c .before .before .text-at .ensures) ∙ c .enum-told2 .given .1)
+    let far = c .before .before .before .before .before .before .before .before in
+    let pre = far .before .before .before .pre in
+    let args = far .before .before .before .args in
+    let file-info = far .before .file-info in
+    let info = c .before .before .before .before .before .before .before .info in
+    let text-at = c .before .before .text-at in
+    let enum-told2 = c .enum-told2 in
+    site-no-dir _ _ pre _ (args .line) _ (sym (file-info .ensures) ∙ info .given .1)
+    (sym (text-at .ensures) ∙ enum-told2 .given .1)
 
 returns-4 : tie.Need-returns-4
 returns-4 c =
-    site-none _ _ (c .before .before .before .before .pre) _ (c .before .before .before .before .args .line) (sym (c .before .before .file-info .ensures) ∙ c .enum-told3 .given .1)
+    let pre = c .before .before .before .before .pre in
+    let args = c .before .before .before .before .args in
+    let file-info = c .before .before .file-info in
+    let enum-told3 = c .enum-told3 in
+    site-none _ _ pre _ (args .line) (sym (file-info .ensures) ∙ enum-told3 .given .1)
 
 pub site-at-spec : {M : Type 1} → statement M
 site-at-spec =

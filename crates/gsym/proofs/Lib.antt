@@ -1,0 +1,5 @@
+mod Overs
+mod Listings
+mod Lines
+mod Poured
+mod Records

@@ -1,0 +1,3 @@
+pub mod Branch
+pub mod Copied
+pub mod Pour
