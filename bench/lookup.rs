@@ -114,6 +114,9 @@ fn main() {
     let file = shared::aligned(std::fs::read(&args[0]).expect("the file"));
     let opened = facade::open(file.bytes()).expect("a file that opens");
     for (name, options, shuffled) in KINDS {
+        if args.len() > 2 && args[1] != "time" && args[2] != name {
+            continue;
+        }
         let addrs = addresses(file.bytes(), shuffled);
         match args[1].as_str() {
             "check" => {
@@ -127,7 +130,7 @@ fn main() {
                     || rattle_pass(file.bytes(), &addrs, options),
                 );
             }
-            side if args[2] == name => {
+            side => {
                 // every tenth address is enough for a count that repeats exactly
                 let addrs: Vec<u64> = addrs.iter().step_by(10).copied().collect();
                 let sum = match side {
@@ -136,7 +139,6 @@ fn main() {
                 };
                 println!("{sum}");
             }
-            _ => {}
         }
     }
 }

@@ -30,8 +30,8 @@ if text.count(old) != 1:
     sys.exit(f"mutants: '{old}' stands {text.count(old)} times in {name}")
 path.write_text(text.replace(old, new))
 PY
-    ORACLE_MUTANT=1 BLAZESYM_SRC="$tmp/src" sh $here/build.sh "$tmp/out"
-    rustc --edition 2021 -C opt-level=2 -L "$tmp" --extern "oracle=$tmp/out/liboracle.rlib" -L "$tmp/out" \
+    ORACLE_MUTANT=1 ORACLE_FLAGS="-C opt-level=1" BLAZESYM_SRC="$tmp/src" sh $here/build.sh "$tmp/out"
+    rustc --edition 2021 -C opt-level=1 -L "$tmp" --extern "oracle=$tmp/out/liboracle.rlib" -L "$tmp/out" \
         --extern "gsym=$tmp/libgsym.rlib" -l static=gsym -l static=reader_c -o "$tmp/compare" $here/compare/main.rs
     start=$(date +%s)
     if timeout 60 "$tmp/compare" files 7 1000000 >"$tmp/said"; then
