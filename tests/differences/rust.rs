@@ -10,10 +10,6 @@ use std::io::BufRead as _;
 mod out {
     #![allow(dead_code)]
     include!(concat!(env!("ORACLE_SOURCES"), "/lookup/out.rs"));
-
-    pub fn number_of(text: &str) -> u64 {
-        number(text)
-    }
 }
 
 fn printed(bytes: &[u8]) -> String {
@@ -36,7 +32,7 @@ fn frame(name: &str, code: Option<&CodeInfo<'_>>) -> String {
 
 fn told(said: Result<Option<ResolvedSym<'_>>, String>) -> String {
     match said {
-        Err(text) => format!("?{}", out::number_of(&text)),
+        Err(text) => format!("?{}", facade::refusal_number(&text)),
         Ok(None) => "?1".into(),
         Ok(Some(sym)) => {
             let inner = sym.inlined.iter().rev().map(|i| frame(&i.name, i.code_info.as_ref()));

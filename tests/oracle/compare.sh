@@ -19,12 +19,7 @@ command -v rustc >/dev/null 2>&1 || { echo "compare: no Rust compiler here, so n
 tmp=$(mktemp -d)
 trap 'rm -rf "$tmp"' EXIT
 sh tests/oracle/build.sh "$tmp" || exit $?
-for crate in gsym_c reader_c; do
-    rt staticlib $crate >"$tmp/rt.log" 2>&1 || { tail -n 20 "$tmp/rt.log"; exit 1; }
-done
-cp target/staticlib/libgsym_c.a "$tmp/libgsym.a"
-cp target/staticlib/libreader_c.a "$tmp/libreader_c.a"
-rustc --edition 2021 -O --crate-type rlib --crate-name gsym -o "$tmp/libgsym.rlib" bindings/rust/src/lib.rs
+sh tests/oracle/library.sh "$tmp"
 rustc --edition 2021 -C opt-level=3 -L "$tmp" --extern "oracle=$tmp/liboracle.rlib" --extern "gsym=$tmp/libgsym.rlib" \
     -l static=gsym -l static=reader_c -o "$tmp/compare" tests/oracle/compare/main.rs
 status=0

@@ -117,6 +117,24 @@ pub fn with_file<T>(
     }
 }
 
+// The refusal number that an error text means; it tells 2 to 12 apart.
+pub fn refusal_number(text: &str) -> u8 {
+    match text {
+        t if t.contains("sufficient bytes") => 2,
+        t if t.contains("magic") => 3,
+        t if t.contains("version") => 4,
+        t if t.contains("address information entry") => 5,
+        t if t.contains("string table entry") => 6,
+        t if t.contains("file info data") => 7,
+        t if t.contains("directory string") || t.contains("file name string") => 8,
+        t if t.contains("line table header") => 9,
+        t if t.contains("from inline information") => 10,
+        t if t.contains("overflowed") => 11,
+        t if t.contains("call file index") => 12,
+        t => panic!("no number for: {t}"),
+    }
+}
+
 // A file that is opened once and looked up in many times, as the Rust's users do.
 #[cfg(not(one_caller))]
 pub struct Opened<'a>(super::resolver::GsymResolver<'a>);

@@ -8,12 +8,7 @@ here=tests/oracle
 src=${BLAZESYM_SRC:-../shared/docs/src}
 tmp=$(mktemp -d)
 trap 'rm -rf "$tmp"' EXIT
-for crate in gsym_c reader_c; do
-    rt staticlib $crate >"$tmp/rt.log" 2>&1 || { tail -n 20 "$tmp/rt.log"; exit 1; }
-done
-cp target/staticlib/libgsym_c.a "$tmp/libgsym.a"
-cp target/staticlib/libreader_c.a "$tmp/libreader_c.a"
-rustc --edition 2021 -O --crate-type rlib --crate-name gsym -o "$tmp/libgsym.rlib" bindings/rust/src/lib.rs
+sh tests/oracle/library.sh "$tmp"
 seen=0
 missed=0
 grep -v '^#' $here/mutants.txt >"$tmp/list"

@@ -12,24 +12,6 @@ const MARK: Frame = {
     Frame { name: text, dir: text, file: text, line: 0x1234 }
 };
 
-// The refusal number that an error text of the Rust means.
-fn number(text: &str) -> u32 {
-    match text {
-        t if t.contains("sufficient bytes") => 2,
-        t if t.contains("magic") => 3,
-        t if t.contains("version") => 4,
-        t if t.contains("address information entry") => 5,
-        t if t.contains("string table entry") => 6,
-        t if t.contains("file info data") => 7,
-        t if t.contains("directory string") || t.contains("file name string") => 8,
-        t if t.contains("line table header") => 9,
-        t if t.contains("from inline information") => 10,
-        t if t.contains("overflowed") => 11,
-        t if t.contains("call file index") => 12,
-        t => panic!("no number for: {t}"),
-    }
-}
-
 fn place(file: &[u8], s: &[u8]) -> Text {
     Text { place: (s.as_ptr() as usize - file.as_ptr() as usize) as u64, len: s.len() as u64 }
 }
@@ -70,7 +52,7 @@ pub fn compare(tally: &mut Tally, file: &[u8], tables: Option<&Tables<'_>>, addr
     let refusal = here.as_ref().err().map_or(0, |r: &Refusal| u32::from(r.number()));
     tally.inside(refusal);
     let agree = facade::with_file(file, addr, options.code_info, options.inlining, |rust| match (&rust, &here) {
-        (Err(text), Err(_)) => number(text) == refusal,
+        (Err(text), Err(_)) => u32::from(facade::refusal_number(text)) == refusal,
         (Ok(None), Err(_)) => refusal == 1,
         (Ok(Some(sym)), Ok(answer)) => same(file, sym, answer, &frames),
         _ => false,

@@ -28,24 +28,6 @@ pub fn aligned<T>(file: &[u8], f: impl FnOnce(&[u8]) -> T) -> T {
     f(bytes)
 }
 
-// The refusal number that an error text of the Rust means.
-fn number(text: &str) -> u64 {
-    match text {
-        t if t.contains("sufficient bytes") => 2,
-        t if t.contains("magic") => 3,
-        t if t.contains("version") => 4,
-        t if t.contains("address information entry") => 5,
-        t if t.contains("string table entry") => 6,
-        t if t.contains("file info data") => 7,
-        t if t.contains("directory string") || t.contains("file name string") => 8,
-        t if t.contains("line table header") => 9,
-        t if t.contains("from inline information") => 10,
-        t if t.contains("overflowed") => 11,
-        t if t.contains("call file index") => 12,
-        t => panic!("no number for: {t}"),
-    }
-}
-
 // What the unchanged Rust answers. Bit 0 of the options asks for code info, bit 1 for inlining.
 pub fn rust(file: &[u8], addr: u64, opts: u64) -> Said {
     aligned(file, |f| {
@@ -56,7 +38,7 @@ pub fn rust(file: &[u8], addr: u64, opts: u64) -> Said {
             [dir[0], dir[1], name[0], name[1], c.line.unwrap().into()]
         };
         facade::with_file(f, addr, opts & 1 != 0, opts & 2 != 0, |r| match r {
-            Err(t) => refused(number(&t)),
+            Err(t) => refused(facade::refusal_number(&t).into()),
             Ok(None) => refused(1),
             Ok(Some(sym)) => {
                 let n = text(sym.name.as_bytes());
