@@ -34,6 +34,7 @@ if [ "$status" = 0 ]; then
     # 3: what it compares with is not on this machine, which it says
     sh tests/oracle/corpus.sh || [ $? = 3 ] || status=1
     sh tests/oracle/compare.sh || [ $? = 3 ] || status=1
+    sh tests/fuzz/torn.sh || [ $? = 3 ] || status=1
 fi
 tail -n 1 "$tmp/log"
 exit "$status"

@@ -316,6 +316,31 @@ static void block_refusals(void)
     }
 }
 
+/* 1 to 65 frames in lists of 0 to 66 records: the records are all there, or 14 and the list as it was */
+static void every_room(void)
+{
+    for (size_t n = 1; n <= 65; n++) {
+        block.len = 0;
+        put_node(&block, 0, 32, 1, 0, 0, 0);
+        for (size_t i = 0; i < n; i++)
+            put_node(&block, 0, 32, 0, S_MID, 1, 100 + i);
+        put_uleb(&block, 0);
+        put_file(&other, made_lines, sizeof made_lines, block.at, block.len);
+        for (size_t len = 0; len <= 66; len++) {
+            gsym_frame *r;
+            gsym_answer a = look(&other, 0x1005, ALL, len, &r);
+            if (n > len || n > 64) {
+                CHECK(is_refusal(a, GSYM_TOO_MANY_FRAMES));
+                CHECK(rest_kept(r, 0));
+                continue;
+            }
+            CHECK(a.number == GSYM_FOUND && a.count == n - 1 && a.line == (n > 1 ? 101 : 12));
+            for (size_t k = 0; k + 1 < n; k++)
+                CHECK(r[k].line == (k + 2 < n ? 102 + k : 12));
+        }
+    }
+}
+
 /* T9 to T12, every cut of T9, and 64 levels */
 static void blocks(void)
 {
@@ -412,6 +437,7 @@ int main(void)
     words_and_texts();
     blocks();
     block_refusals();
+    every_room();
     lookups();
     starts_and_cuts(&p);
     refusals(&p);

@@ -9,7 +9,6 @@ use Rattle.reads.specs.Pick.{pick}
 use Rattle.types.specs.declared.Address.{Address}
 use Rattle.types.specs.declared.Options.{Options}
 use Rattle.types.specs.declared.Answer.{Answer}
-use Rattle.resolver.specs.Spell.{Looked}
 use Rattle.resolver.specs.Lookup.{lookupOf}
 use Rattle.resolver.specs.Rows.{numbersOf}
 use Rattle.gsym_c.specs.declared.GsymAnswer.{GsymAnswer}
@@ -48,12 +47,13 @@ laid a = record {
   count = a .count;
 }
 
--- an answer and its records, with the room of the lent list
-abbrev pub lookedAt : List ℕ → Address → Options → List (List ℕ) → Looked
-lookedAt file addr o entry = lookupOf file addr o (roomFor entry)
-
--- what a lookup answers and leaves in the lent list
-pub record LooksUp (file : List ℕ) (addr : Address) (o : Options) (entry exit : List (List ℕ)) (r : GsymAnswer) :
+-- what a lookup with so much room answers, and leaves in the lent list
+pub record LooksWith
+    (file : List ℕ) (addr : Address) (o : Options) (room : ℕ) (entry exit : List (List ℕ)) (r : GsymAnswer) :
     Type 0 where
-  pub says : r ≡ laid (lookedAt file addr o entry .answer)
-  pub lent : exit ≡ written numbersOf (lookedAt file addr o entry .frames) entry
+  pub says : r ≡ laid (lookupOf file addr o room .answer)
+  pub lent : exit ≡ written numbersOf (lookupOf file addr o room .frames) entry
+
+-- with the room of the lent list
+abbrev pub LooksUp : List ℕ → Address → Options → (entry exit : List (List ℕ)) → GsymAnswer → Type 0
+LooksUp file addr o entry exit r = LooksWith file addr o (roomFor entry) entry exit r

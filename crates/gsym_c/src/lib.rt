@@ -11,14 +11,18 @@ use types::Address;
 use types::Answer;
 use types::Options;
 ghost use mathlib.Core.Path.{_≡_};
-ghost use Prim.Native.Nat.{_*_, min};
+ghost use Prim.Native.Nat.{_*_, _≤_, min};
 ghost use lib.ListN.{length};
 ghost use Rattle.resolver.specs.Stages.{allOptions};
+ghost use Rattle.resolver.specs.Rows.{recordsIn};
 ghost use Rattle.gsym_c.specs.Laid.{ListsBlock};
-ghost use Rattle.gsym_c.specs.Asked.{address, optionsOf, asksFrames, flag, laid, LooksUp};
+ghost use Rattle.gsym_c.specs.Asked.{address, optionsOf, asksFrames, flag, laid, LooksWith, LooksUp};
 
 // The version, 0.1.0, as include/gsym.h counts it.
 const VERSION: u32 = 100;
+
+// Room for the frames of most addresses.
+const FEW_FRAMES: usize = 16;
 
 // What a lookup answers, as C has it.
 #[repr(C)]
@@ -44,12 +48,12 @@ pub struct GsymListed {
     pub number: u32,
 }
 
-// How many frames a list of this length has room for.
-fn room_in(len: usize) -> usize
-    ensures { λ r. ⌜ r ≡ min 64 len ⌝ }
+// How many frames a list of this length has room for, where there are at most `most`.
+fn room_in(len: usize, most: usize) -> usize
+    ensures { λ r. ⌜ r ≡ min most len ⌝ }
 {
-    if types::MAX_FRAMES < len {
-        return types::MAX_FRAMES;
+    if most < len {
+        return most;
     }
     len
 }
@@ -105,18 +109,12 @@ fn lay_out(a: Answer) -> GsymAnswer
     }
 }
 
-// Space for the records of a lookup, seven numbers each.
-fn record_space() -> [u64; 448]
-    ensures { λ r. ⌜ 448 ≡ length r ⌝ }
-{
-    [0; 448]
-}
-
-// A lookup with position and inlined calls, by way of `store`, which has room for as many records as the lent list.
+// A lookup with position and inlined calls, by way of `store`, which has room for no more records than the lent list.
 fn lookup_by(file: &[u8], addr: Address, store: &mut [u64], records: &mut [[u64; 7]]) -> GsymAnswer
-    requires { ⌜ length (now store) ≡ 7 * min 64 (length (now records)) ⌝ }
+    requires { ⌜ recordsIn (now store) ≤ length (now records) ⌝ }
     ensures { λ r. ⌜
-        LooksUp (now (file .entry)) addr allOptions (now (records .entry)) (now (records .exit)) r
+        LooksWith (now (file .entry)) addr allOptions (recordsIn (now (store .entry)))
+        (now (records .entry)) (now (records .exit)) r
         ⌝ }
 {
     let all = Options {
@@ -129,16 +127,57 @@ fn lookup_by(file: &[u8], addr: Address, store: &mut [u64], records: &mut [[u64;
     lay_out(answer)
 }
 
-// A lookup with position and inlined calls.
+// Space for 16 records, seven numbers each.
+fn small_space() -> [u64; 112]
+    ensures { λ r. ⌜ 112 ≡ length r ⌝ }
+{
+    [0; 112]
+}
+
+// A lookup with position and inlined calls, with room for 16 frames at most.
+fn lookup_few(file: &[u8], addr: Address, records: &mut [[u64; 7]]) -> GsymAnswer
+    ensures { λ r. ⌜
+        LooksWith (now (file .entry)) addr allOptions (min 16 (length (now (records .entry))))
+        (now (records .entry)) (now (records .exit)) r
+        ⌝ }
+{
+    let n = RECORD_WIDTH * room_in(records.len(), FEW_FRAMES);
+    let mut space = small_space();
+    let all: &mut [u64] = &mut space;
+    lookup_by(file, addr, &mut all[..n], records)
+}
+
+// Space for 64 records.
+fn large_space() -> [u64; 448]
+    ensures { λ r. ⌜ 448 ≡ length r ⌝ }
+{
+    [0; 448]
+}
+
+// A lookup with position and inlined calls, with room for as many frames as there may be.
+fn lookup_many(file: &[u8], addr: Address, records: &mut [[u64; 7]]) -> GsymAnswer
+    ensures { λ r. ⌜
+        LooksUp (now (file .entry)) addr allOptions (now (records .entry)) (now (records .exit)) r
+        ⌝ }
+{
+    let n = RECORD_WIDTH * room_in(records.len(), types::MAX_FRAMES);
+    let mut space = large_space();
+    let all: &mut [u64] = &mut space;
+    lookup_by(file, addr, &mut all[..n], records)
+}
+
+// A lookup with position and inlined calls. Most addresses have few frames, and a large space costs more to fill than
+// they cost to read; more room changes nothing but 14.
 fn lookup_all(file: &[u8], addr: Address, records: &mut [[u64; 7]]) -> GsymAnswer
     ensures { λ r. ⌜
         LooksUp (now (file .entry)) addr allOptions (now (records .entry)) (now (records .exit)) r
         ⌝ }
 {
-    let n = RECORD_WIDTH * room_in(records.len());
-    let mut space = record_space();
-    let all: &mut [u64] = &mut space;
-    lookup_by(file, addr, &mut all[..n], records)
+    let few = lookup_few(file, addr, records);
+    if few.number != types::TOO_MANY_FRAMES as u32 {
+        return few;
+    }
+    lookup_many(file, addr, records)
 }
 
 // The symbol of an address, with what `options` ask for: bit 0 its source position, bit 1 the calls inlined there, both
@@ -209,7 +248,7 @@ pub extern "C" fn gsym_block_frames(
 ) -> GsymListed
     ensures { λ r. ⌜ ListsBlock (now (block .entry)) symbol addr (now (frames .entry)) (now (frames .exit)) r ⌝ }
 {
-    let n = FRAME_WIDTH * room_in(frames.len());
+    let n = FRAME_WIDTH * room_in(frames.len(), types::MAX_FRAMES);
     let mut space = frame_space();
     let all: &mut [u32] = &mut space;
     block_by(block, Address(symbol), Address(addr), &mut all[..n], frames)

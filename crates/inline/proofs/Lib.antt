@@ -15,6 +15,7 @@ pub mod Says
 pub mod Demand
 pub mod Fuel
 pub mod Answers
+pub mod MoreRoom
 pub mod ByPathsOrder
 pub mod ByPathsTests
 pub mod ByPathsWalk

@@ -2,8 +2,9 @@
 -- written, and the answer is the plain one.
 -- Assumes nothing.
 use Prim.Native.Nat.{ℕ}
-use mathlib.Core.Bool.{Bool, true, false}
+use mathlib.Core.Bool.{Bool, true, false, false≢true}
 use mathlib.Core.List.{List, [], _∷_}
+use mathlib.Core.Logic.{⊎-elim}
 use mathlib.Core.Path.{_≡_, refl, sym, ap, _∙_}
 use lib.Dec.{eqb}
 use Rattle.reads.specs.Pick.{pick}
@@ -159,5 +160,8 @@ module _ (file : List ℕ) (addr : Address) (o : Options) (entry : List ℕ) whe
         says = rw s (w .says);
         records = rw s (w .records);
         kept = w .kept;
-        untouched = λ f. let y : _≡_ {A = ℕ} 0 1 = let z : false ≡ true = sym f ∙ i in cc in never y;
+        untouched = λ f. absurd (⊎-elim
+            (λ (e : o .«code_info» ≡ false). false≢true (sym e ∙ c))
+            (λ (e : o .inlining ≡ false). false≢true (sym e ∙ i))
+            f);
       }

@@ -20,6 +20,7 @@ pub mod Numbers
 pub mod Outcomes
 pub mod Symbols
 pub mod Rooms
+pub mod MoreRoom
 pub mod Answers
 pub mod Raised
 pub mod Faults

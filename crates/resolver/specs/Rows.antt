@@ -3,6 +3,7 @@
 use Prim.Native.Nat.{ℕ, zero, suc, _+_, _-_, _*_, _/_, min}
 use mathlib.Core.Bool.{Bool, true, false}
 use mathlib.Core.List.{List, [], _∷_, _++_}
+use mathlib.Core.Logic.{_⊎_}
 use mathlib.Core.Path.{_≡_}
 use lib.Dec.{eqb}
 use lib.ListN.{length, take}
@@ -172,9 +173,9 @@ Writes file t e addr room entry exit r = Wrote (frameRest file t e addr room) en
 
 -- ---- the whole lookup
 
--- what `lookup_in` answers and leaves; without inlining the list isn't touched
+-- what `lookup_in` answers and leaves; without both options the list isn't touched
 pub record Looks (file : List ℕ) (addr : Address) (o : Options) (entry exit : List ℕ) (r : Answer) : Type 0 where
   pub says : r ≡ lookupOf file addr o (recordsIn entry) .answer
   pub records : take (7 * r .count) exit ≡ flatFrames (lookupOf file addr o (recordsIn entry) .frames)
   pub kept : length exit ≡ length entry
-  pub untouched : o .inlining ≡ false → exit ≡ entry
+  pub untouched : (o .«code_info» ≡ false) ⊎ (o .inlining ≡ false) → exit ≡ entry

@@ -257,7 +257,7 @@ fn lookup_frames(file: &[u8], addr: Address, store: &mut [u64]) -> Answer
 // The symbol of an address with all that is asked for. The later frames become records at the front of `store`, seven
 // numbers each: place and length of name, directory and file, and the line. There is room for the smaller of 64 and a
 // seventh of its length, which counts the block's first frame, though that becomes no record. After a refusal nothing
-// is promised of what the store holds; without inlining it isn't touched.
+// is promised of what the store holds; without both options it isn't touched.
 pub fn lookup_in(file: &[u8], addr: Address, options: Options, store: &mut [u64]) -> Answer
     ensures { λ r. ⌜ Looks (now (file .entry)) addr options (now (store .entry)) (now (store .exit)) r ⌝ }
 {

@@ -1,53 +1,40 @@
--- `gsym_c::lookup_all` meets its contract: a store for the room of the lent list is lent on.
+-- `gsym_c::lookup_all` meets its contract: few frames first, and all that there may be after 14.
 -- Assumes nothing.
-use native.Mathlib.Omega.{arith}
-use Rattle.gsym_c.proofs.Copies.{part-length, part-room}
+use Rattle.gsym_c.proofs.Looking.{few-enough, few-again}
 use borrow.Author.Needs.{needs}
 use Rattle.gsym_c.proofs.lookup_all.Statement.{statement}
 use Rattle.gsym_c.proofs.lookup_all.Tie as tie
 
-room-in-requires : tie.Need-room-in-requires
-room-in-requires c κs = search needs
+lookup-few-requires : tie.Need-lookup-few-requires
+lookup-few-requires c κs = search needs
 
-mul-n : tie.Need-mul-n
-mul-n c = search needs
-
-record-space-requires : tie.Need-record-space-requires
-record-space-requires c κs = search needs
-
-slice-aggregate-all : tie.Need-slice-aggregate-all
-slice-aggregate-all c = search needs
-
-slice-aggregate-lookup-by : tie.Need-slice-aggregate-lookup-by
-slice-aggregate-lookup-by c =
-    part-length _ _
-    (omega (arith, c .before .before .before .room-in .ensures, c .before .before .record-space .ensures))
-
-lookup-by-requires : tie.Need-lookup-by-requires
-lookup-by-requires c κs =
-    part-room 7 _ _ _
-    (omega (
-      arith,
-      c .before .before .before .before .room-in .ensures,
-      c .before .before .before .record-space .ensures,
-    ))
-    (c .before .before .before .before .room-in .ensures)
+cast-if1 : tie.Need-cast-if1
+cast-if1 c = search needs
 
 same-length : tie.Need-same-length
 same-length c = search needs
 
 returns : tie.Need-returns
-returns c = search needs
+returns c = few-enough _ _ _ _ _ _ (c .before .before .before .lookup-few .ensures) (c .if1 .taken)
+
+lookup-many-requires : tie.Need-lookup-many-requires
+lookup-many-requires c κs = search needs
+
+same-length-2 : tie.Need-same-length-2
+same-length-2 c = search needs
+
+returns-2 : tie.Need-returns-2
+returns-2 c =
+    few-again _ _ _ _ _ _ (c .before .before .before .before .before .before .lookup-few .ensures) (c .before .before .before .if1 .left) _ _ (c .before .lookup-many .ensures)
 
 pub lookup-all-spec : {M : Type 1} → statement M
 lookup-all-spec =
     tie.close
     (tie.spec
-    room-in-requires
-    mul-n
-    record-space-requires
-    slice-aggregate-all
-    slice-aggregate-lookup-by
-    lookup-by-requires
+    lookup-few-requires
+    cast-if1
     same-length
-    returns)
+    returns
+    lookup-many-requires
+    same-length-2
+    returns-2)
