@@ -164,6 +164,7 @@ impl Answer {
 /// Records of inlined calls go to the front of `frames`, the outermost first; room is the smaller of 64 and its length, and
 /// counts all frames of the symbol's inline block, one more than there will be records. A refusal changes none, nor does a
 /// lookup without inlining, and what is past the count stays.
+#[inline]
 pub fn lookup(file: &[u8], addr: u64, options: Options, frames: &mut [Frame]) -> Result<Answer, Refusal> {
     let bits = u32::from(options.code_info) | u32::from(options.inlining) << 1;
     // SAFETY: both slices are lent with their own lengths, and the library writes only records of `frames`.

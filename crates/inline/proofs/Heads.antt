@@ -84,7 +84,7 @@ module _ (s : List ℕ) (at : ℕ) (k : Read8) (K : k ≡ u8At s at) where
           tail-cut c p = ap (withFile s kids name) (sym p) ∙ at-file
 
           module _ (file m : ℕ) (pf : f ≡ num.Value file m) (l : Num) (L : l ≡ numAt s m) where
-            at-line : withLine kids name file l ≡ tailAt s at
+            pub at-line : withLine kids name file l ≡ tailAt s at
             unfolding withFile
             at-line = ap (withLine kids name file) L ∙ ap (withFile s kids name) (sym pf) ∙ at-file
 

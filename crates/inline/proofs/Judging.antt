@@ -9,13 +9,14 @@ use borrow.Author.Tests.{lt-ltb, le-ltb}
 use Rattle.reads.specs.Pick.{pick}
 use Rattle.inline.specs.Tree.{Range}
 use Rattle.inline.specs.Frames.{anyIn, firstOff}
-use Rattle.inline.specs.Head.{Ranges, all, some, rangesAt, tailAt, end, cut, withTail, withRanges, rawAt}
+use Rattle.inline.specs.Head.{Ranges, all, some, rangesAt, withLine, tailAt, end, cut, withTail, withRanges, rawAt}
 use Rattle.inline.specs.Fits.{anyLarge}
 use Rattle.inline.specs.Judge.{seenOf, seenAt, spansOf, endOf}
 use Rattle.inline.specs.declared.head.Cause.{Cause}
 use Rattle.inline.specs.declared.head.Fault.{Fault}
 use Rattle.inline.specs.declared.head.Fault.the-variants as fault
-use Rattle.inline.specs.declared.head.Rest.{Rest}
+use Rattle.inline.specs.declared.head.Num.{Num}
+use Rattle.inline.specs.declared.head.Num.the-variants as num
 use Rattle.inline.specs.declared.head.Tail.{Tail}
 use Rattle.inline.specs.declared.head.Tail.the-variants as tail
 use Rattle.inline.specs.declared.judge.Ctx.{Ctx}
@@ -26,59 +27,58 @@ use Rattle.inline.specs.declared.judge.Seen.{Seen}
 use Rattle.inline.specs.declared.judge.Seen.the-variants as seen
 use Rattle.inline.proofs.Numbers.{pick-ap}
 
--- ---- what follows the ranges
+-- ---- what follows the ranges: read as the laws of `Heads` have it, then judged
 
-module _ (s : List ℕ) (start : ℕ) (o : Bool) (at : ℕ) (t : Tail) (T : t ≡ tailAt s at) where
-  pub end-cut : (k : Cause) → t ≡ tail.Cut k → seen.Bad (fault.Unread k) ≡ endOf start o (tailAt s at)
+-- a call line whose call file is too large, whether it reads or not
+far-line :
+    (start : ℕ) (o : Bool) (kids name file : ℕ) → 4294967295 < file → (l : Num) →
+    seen.Bad fault.CallFile ≡ endOf start o (withLine kids name file l)
+unfolding endOf withLine
+far-line start o kids name file big (num.Value line n) = sym (rw (lt-ltb 4294967295 file big))
+far-line start o kids name file big (num.Bad c) = sym (rw (lt-ltb 4294967295 file big))
+
+module _ (s : List ℕ) (start : ℕ) (o : Bool) (at : ℕ) where
+  pub end-cut : (k : Cause) → tail.Cut k ≡ tailAt s at → seen.Bad (fault.Unread k) ≡ endOf start o (tailAt s at)
   unfolding endOf
-  end-cut k p = ap (endOf start o) (sym p ∙ T)
+  end-cut k e = ap (endOf start o) e
 
-  module _ (file : ℕ) (k : Cause) (p : t ≡ tail.Late file k) where
-    pub end-late-far : 4294967295 < file → seen.Bad fault.CallFile ≡ endOf start o (tailAt s at)
-    unfolding endOf
-    end-late-far l =
-        ap (λ (b : Bool). pick b (seen.Bad fault.CallFile) (seen.Bad (fault.Unread k))) (sym (lt-ltb 4294967295 file l))
-        ∙ ap (endOf start o) (sym p ∙ T)
+  pub end-late :
+      (file : ℕ) (k : Cause) → file ≤ 4294967295 → tail.Late file k ≡ tailAt s at →
+      seen.Bad (fault.Unread k) ≡ endOf start o (tailAt s at)
+  unfolding endOf
+  end-late file k l e =
+      ap (λ (b : Bool). pick b (seen.Bad fault.CallFile) (seen.Bad (fault.Unread k))) (sym (le-ltb 4294967295 file l))
+      ∙ ap (endOf start o) e
 
-    pub end-late : file ≤ 4294967295 → seen.Bad (fault.Unread k) ≡ endOf start o (tailAt s at)
-    unfolding endOf
-    end-late l =
-        ap (λ (b : Bool). pick b (seen.Bad fault.CallFile) (seen.Bad (fault.Unread k))) (sym (le-ltb 4294967295 file l))
-        ∙ ap (endOf start o) (sym p ∙ T)
+  pub end-far :
+      (kids name file : ℕ) → 4294967295 < file → (l : Num) → withLine kids name file l ≡ tailAt s at →
+      seen.Bad fault.CallFile ≡ endOf start o (tailAt s at)
+  end-far kids name file big l e = far-line start o kids name file big l ∙ ap (endOf start o) e
 
-  module _ (r : Rest) (p : t ≡ tail.Whole r) where
-    whole : Judged
-    whole = record {
-      next = r .next;
-      base = start;
-      inside = o;
-      kids = r .kids;
-      name = r .name;
-      file = r .file;
-      line = r .line;
-    }
-
-    pub end-far : 4294967295 < r .file → seen.Bad fault.CallFile ≡ endOf start o (tailAt s at)
-    unfolding endOf whole
-    end-far l =
-        ap (λ (b : Bool). pick b (seen.Bad fault.CallFile) (seen.Node whole)) (sym (lt-ltb 4294967295 (r .file) l))
-        ∙ ap (endOf start o) (sym p ∙ T)
-
-    pub end-whole :
-        r .file ≤ 4294967295 →
-        seen.Node (record {
-          next = r .next;
-          base = start;
-          inside = o;
-          kids = r .kids;
-          name = r .name;
-          file = r .file;
-          line = r .line;
-        }) ≡ endOf start o (tailAt s at)
-    unfolding endOf whole
-    end-whole l =
-        ap (λ (b : Bool). pick b (seen.Bad fault.CallFile) (seen.Node whole)) (sym (le-ltb 4294967295 (r .file) l))
-        ∙ ap (endOf start o) (sym p ∙ T)
+  pub end-whole :
+      (kids name file line next : ℕ) → file ≤ 4294967295 →
+      tail.Whole (record { kids = kids; name = name; file = file; line = line; next = next }) ≡ tailAt s at →
+      seen.Node (record {
+        next = next;
+        base = start;
+        inside = o;
+        kids = kids;
+        name = name;
+        file = file;
+        line = line;
+      }) ≡ endOf start o (tailAt s at)
+  unfolding endOf
+  end-whole kids name file line next l e =
+      ap (λ (b : Bool). pick b (seen.Bad fault.CallFile) (seen.Node (record {
+        next = next;
+        base = start;
+        inside = o;
+        kids = kids;
+        name = name;
+        file = file;
+        line = line;
+      }))) (sym (le-ltb 4294967295 file l))
+      ∙ ap (endOf start o) e
 
 -- ---- a judged head from its ranges
 

@@ -39,7 +39,7 @@ enum Place {
 }
 
 // What follows the ranges, and the place after it.
-pub(crate) struct Rest {
+struct Rest {
     pub kids: u8,
     pub name: u32,
     pub file: u64,
@@ -48,7 +48,7 @@ pub(crate) struct Rest {
 }
 
 // Cut: it doesn't read as far as the call file. Late: the call file reads, the call line doesn't.
-pub(crate) enum Tail {
+enum Tail {
     Cut(Cause),
     Late(u64, Cause),
     Whole(Rest),
@@ -107,7 +107,7 @@ fn pass_ranges(s: &[u8], count: u64, at: usize) -> Place
 }
 
 // A call line above 4,294,967,295 becomes that.
-fn capped(line: u64) -> u32
+pub(crate) fn capped(line: u64) -> u32
     ensures { λ r. ⌜ r ≡ min 4294967295 line ⌝ }
 {
     if 4294967295 < line {
@@ -118,7 +118,7 @@ fn capped(line: u64) -> u32
 }
 
 // What follows the ranges of a node.
-pub(crate) fn tail_at(s: &[u8], at: usize) -> Tail
+fn tail_at(s: &[u8], at: usize) -> Tail
     ensures { λ r. ⌜ r ≡ tailAt (now (s .entry)) at ⌝ }
 {
     match reads::u8_at(s, at) {

@@ -1,10 +1,12 @@
 // A node's head judged at an address: the first fault of 10 to 13, or what the node comes to (document 01, "Inline
 // tree"). Frames and children are left to `walk`.
+use super::head::Cause;
 use super::head::Fault;
 use super::head::Num;
-use super::head::Tail;
+use super::head::capped;
 use super::head::number_at;
-use super::head::tail_at;
+use reads::Read8;
+use reads::Read32;
 ghost use mathlib.Core.Path.{_≡_};
 ghost use mathlib.Core.Bool.{true, false};
 ghost use Prim.Native.Nat.{_≤_};
@@ -130,33 +132,40 @@ fn ranges(s: &[u8], ctx: Ctx, count: u64, at: usize) -> Span
     Span::At(to, first, inside)
 }
 
-// What follows the ranges. The call file is judged before the call line is.
+// What follows the ranges, in its order: the call file is judged before the call line is read. `tail_at` reads the same;
+// it would be a call for each node here, since nodes that are passed over take it too.
 fn judge_tail(s: &[u8], start: u64, inside: bool, at: usize) -> Seen
     ensures { λ r. ⌜ r ≡ endOf start inside (tailAt (now (s .entry)) at) ⌝ }
 {
-    match tail_at(s, at) {
-        Tail::Cut(c) => Seen::Bad(Fault::Unread(c)),
-        Tail::Late(read, c) => {
-            if CALL_FILE_MAX < read {
-                return Seen::Bad(Fault::CallFile);
-            }
-            Seen::Bad(Fault::Unread(c))
-        }
-        Tail::Whole(r) => {
-            let file = r.file;
-            if CALL_FILE_MAX < file {
-                return Seen::Bad(Fault::CallFile);
-            }
-            Seen::Node(Judged {
-                next: r.next,
-                base: start,
-                inside,
-                kids: r.kids,
-                name: r.name,
-                file: file as u32,
-                line: r.line,
-            })
-        }
+    match reads::u8_at(s, at) {
+        Read8::Unread => Seen::Bad(Fault::Unread(Cause::Short)),
+        Read8::Value(kids) => match reads::u32_at(s, at + 1) {
+            Read32::Unread => Seen::Bad(Fault::Unread(Cause::Short)),
+            Read32::Value(name) => match number_at(s, at + 5) {
+                Num::Bad(c) => Seen::Bad(Fault::Unread(c)),
+                Num::Value(read, m) => {
+                    if CALL_FILE_MAX < read {
+                        return Seen::Bad(Fault::CallFile);
+                    }
+                    let file = read as u32;
+                    match number_at(s, m) {
+                        Num::Bad(c) => Seen::Bad(Fault::Unread(c)),
+                        Num::Value(on, next) => {
+                            let line = capped(on);
+                            Seen::Node(Judged {
+                                next,
+                                base: start,
+                                inside,
+                                kids,
+                                name,
+                                file,
+                                line,
+                            })
+                        }
+                    }
+                }
+            },
+        },
     }
 }
 

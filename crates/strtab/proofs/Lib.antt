@@ -4,6 +4,7 @@ pub mod Leading
 mod Chars
 mod Passing
 mod Runs
+mod Counting
 mod Names
 pub mod Texts
 mod Answers

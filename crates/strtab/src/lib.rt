@@ -5,6 +5,7 @@ mod scan;
 mod utf8;
 
 pub use lengths::sequence_len;
+use scan::ascii_end;
 use scan::run_end;
 use types::StrOffset;
 use types::Text;
@@ -112,7 +113,7 @@ fn name_in(strings: &[u8], at: usize) -> Len
 {
     let mut i = at;
     while i < strings.len() {
-        let j = run_end(strings, i, 0x7f);
+        let j = ascii_end(strings, i);
         if strings.len() <= j {
             return Len::Nothing;
         }

@@ -1,9 +1,60 @@
-// Runs of bytes that need no judging, passed four at a time.
+// Runs of bytes that need no judging, passed four at a time, or sixteen in names.
 ghost use mathlib.Core.Path.{_≡_};
 ghost use Prim.Native.Nat.{_+_, _≤_};
 ghost use lib.ListN.{length, drop};
 ghost use Rattle.strtab.specs.Utf8.{range, within};
-ghost use Rattle.strtab.specs.Steps.{runLen};
+ghost use Rattle.reads.specs.Pick.{pick};
+ghost use Rattle.strtab.specs.Steps.{runLen, Counts};
+
+// The first place from `at` on whose byte is not one from 1 to 7f, or the end. Its callers start inside the slice.
+pub(crate) fn ascii_end(s: &[u8], at: usize) -> usize
+    requires { ⌜ at ≤ length (now s) ⌝ }
+    ensures { λ r. ⌜ r ≡ at + runLen (range 1 0x7f) (drop at (now (s .entry))) ⌝ }
+{
+    let mut i = at;
+    while 16 <= s.len() - i && sixteen_in(s, i) == 16 {
+        i += 16;
+    }
+    run_end(s, i, 0x7f)
+}
+
+// How many of the sixteen bytes from `at` on are from 1 to 7f. A sum of ones is compiled to one comparison of all
+// sixteen, where tests one after another stay so many tests. The callers have seen that the bytes are there.
+fn sixteen_in(s: &[u8], at: usize) -> u8
+    requires { ⌜ at + 16 ≤ length (now s) ⌝ }
+    ensures { λ r. ⌜ Counts (range 1 0x7f) (now (s .entry)) at 16 r ⌝ }
+{
+    let low = eight_in(s, at);
+    let high = eight_in(s, at + 8);
+    low + high
+}
+
+fn eight_in(s: &[u8], at: usize) -> u8
+    requires { ⌜ at + 8 ≤ length (now s) ⌝ }
+    ensures { λ r. ⌜ Counts (range 1 0x7f) (now (s .entry)) at 8 r ⌝ }
+{
+    let low = four_in(s, at);
+    let high = four_in(s, at + 4);
+    low + high
+}
+
+fn four_in(s: &[u8], at: usize) -> u8
+    requires { ⌜ at + 4 ≤ length (now s) ⌝ }
+    ensures { λ r. ⌜ Counts (range 1 0x7f) (now (s .entry)) at 4 r ⌝ }
+{
+    let first = one_in(s[at]);
+    let second = one_in(s[at + 1]);
+    let third = one_in(s[at + 2]);
+    let fourth = one_in(s[at + 3]);
+    first + second + third + fourth
+}
+
+// 1 for a byte from 1 to 7f, else 0.
+fn one_in(b: u8) -> u8
+    ensures { λ r. ⌜ (r ≡ pick (within (range 1 0x7f) b) 1 0) × (r ≤ 1) ⌝ }
+{
+    if is_between(1, 0x7f, b) { 1 } else { 0 }
+}
 
 // The first place from `at` on whose byte is not one from 1 to `top`, or the end. Its callers start inside the slice.
 pub(crate) fn run_end(s: &[u8], at: usize, top: u8) -> usize

@@ -22,16 +22,16 @@ abbrev μ-loop : tie.MeasureT-loop
 μ-loop strings at i₀ i = length strings - i
 
 -- the run is passed
-past : (c : tie.After-run-end Inv-loop μ-loop) →
+past : (c : tie.After-ascii-end Inv-loop μ-loop) →
     let a = c .before .before .before .before .args in
-    Passed (nameIn (now (a .strings)) (a .at)) (named []) (now (a .strings)) (a .at) (c .run-end .result)
-past c = pass-run (range 1 0x7f) (named []) name-byte (c .before .before .loop .inv) _ (c .run-end .ensures)
+    Passed (nameIn (now (a .strings)) (a .at)) (named []) (now (a .strings)) (a .at) (c .ascii-end .result)
+past c = pass-run (range 1 0x7f) (named []) name-byte (c .before .before .loop .inv) _ (c .ascii-end .ensures)
 
 loop-holds : tie.Need-loop-holds Inv-loop μ-loop
 loop-holds c = begin _ _ (name-begin _ _)
 
-run-end-requires : tie.Need-run-end-requires Inv-loop μ-loop
-run-end-requires c κs = search needs
+ascii-end-requires : tie.Need-ascii-end-requires Inv-loop μ-loop
+ascii-end-requires c κs = search needs
 
 returns : tie.Need-returns Inv-loop μ-loop
 returns c = failed (past (c .before)) (name-over _ _ (c .if1 .taken))
@@ -70,7 +70,7 @@ loop-less c =
       arith,
       char-fits _ _ (c .before .before .before .before .if1 .left) _ (c .before .char-len .ensures)
           (c .if3 .left),
-      c .before .before .before .before .before .run-end .ensures,
+      c .before .before .before .before .before .ascii-end .ensures,
     )
 
 loop-again : tie.Need-loop-again Inv-loop μ-loop
@@ -89,7 +89,7 @@ name-in-spec =
     Inv-loop
     μ-loop
     loop-holds
-    run-end-requires
+    ascii-end-requires
     returns
     shared-slice-read-if2
     sub-len
