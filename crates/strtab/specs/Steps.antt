@@ -1,12 +1,11 @@
 -- What the private functions are held to: the range of a sequence's second byte, the length of the character that bytes
 -- begin with, and that of a run. No public function's contract cites this.
 -- Assumes nothing.
-use Prim.Native.Nat.{ℕ, suc, _+_, _≤_}
+use Prim.Native.Nat.{ℕ, zero, suc, _+_}
 use mathlib.Core.Bool.{Bool, true, false}
 use mathlib.Core.List.{List, [], _∷_}
-use mathlib.Core.Path.{_≡_}
 use lib.Dec.{eqb}
-use lib.ListN.{length, drop}
+use lib.ListN.{length}
 use Rattle.reads.specs.Pick.{pick}
 use Rattle.strtab.specs.Utf8.{Range, range, within, tail, Start, starts, nowhere, followers}
 
@@ -39,6 +38,8 @@ unfoldable pub runLen : Range → List ℕ → ℕ
 runLen r [] = 0
 runLen r (b ∷ bs) = pick (within r b) (suc (runLen r bs)) 0
 
--- n of the k bytes from a place on lie in a range; said is only what all k of them mean: that the run goes on past them
-abbrev pub Counts : Range → List ℕ → ℕ → ℕ → ℕ → Type 0
-Counts r s at k n = (n ≤ k) × (n ≡ k → at + runLen r (drop at s) ≡ at + k + runLen r (drop (at + k) s))
+-- how many of the first k bytes lie in a range
+unfoldable pub countIn : Range → ℕ → List ℕ → ℕ
+countIn r zero bs = 0
+countIn r (suc k) [] = 0
+countIn r (suc k) (b ∷ bs) = pick (within r b) 1 0 + countIn r k bs

@@ -4,7 +4,7 @@ ghost use Prim.Native.Nat.{_+_, _≤_};
 ghost use lib.ListN.{length, drop};
 ghost use Rattle.strtab.specs.Utf8.{range, within};
 ghost use Rattle.reads.specs.Pick.{pick};
-ghost use Rattle.strtab.specs.Steps.{runLen, Counts};
+ghost use Rattle.strtab.specs.Steps.{runLen, countIn};
 
 // The first place from `at` on whose byte is not one from 1 to 7f, or the end. Its callers start inside the slice.
 pub(crate) fn ascii_end(s: &[u8], at: usize) -> usize
@@ -22,7 +22,7 @@ pub(crate) fn ascii_end(s: &[u8], at: usize) -> usize
 // sixteen, where tests one after another stay so many tests. The callers have seen that the bytes are there.
 fn sixteen_in(s: &[u8], at: usize) -> u8
     requires { ⌜ at + 16 ≤ length (now s) ⌝ }
-    ensures { λ r. ⌜ Counts (range 1 0x7f) (now (s .entry)) at 16 r ⌝ }
+    ensures { λ r. ⌜ r ≡ countIn (range 1 0x7f) 16 (drop at (now (s .entry))) ⌝ }
 {
     let low = eight_in(s, at);
     let high = eight_in(s, at + 8);
@@ -31,7 +31,7 @@ fn sixteen_in(s: &[u8], at: usize) -> u8
 
 fn eight_in(s: &[u8], at: usize) -> u8
     requires { ⌜ at + 8 ≤ length (now s) ⌝ }
-    ensures { λ r. ⌜ Counts (range 1 0x7f) (now (s .entry)) at 8 r ⌝ }
+    ensures { λ r. ⌜ r ≡ countIn (range 1 0x7f) 8 (drop at (now (s .entry))) ⌝ }
 {
     let low = four_in(s, at);
     let high = four_in(s, at + 4);
@@ -40,7 +40,7 @@ fn eight_in(s: &[u8], at: usize) -> u8
 
 fn four_in(s: &[u8], at: usize) -> u8
     requires { ⌜ at + 4 ≤ length (now s) ⌝ }
-    ensures { λ r. ⌜ Counts (range 1 0x7f) (now (s .entry)) at 4 r ⌝ }
+    ensures { λ r. ⌜ r ≡ countIn (range 1 0x7f) 4 (drop at (now (s .entry))) ⌝ }
 {
     let first = one_in(s[at]);
     let second = one_in(s[at + 1]);

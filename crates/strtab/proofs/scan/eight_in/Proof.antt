@@ -1,6 +1,7 @@
--- `strtab::scan::eight_in` meets its contract: both halves are full where the sum is.
+-- `strtab::scan::eight_in` meets its contract: both halves.
 -- Assumes nothing.
-use Rattle.strtab.proofs.Counting.{halves-counted}
+use native.Mathlib.Omega.{arith}
+use Rattle.strtab.proofs.Counting.{counted-le, halves-counted}
 use borrow.Author.Needs.{needs}
 use Rattle.strtab.proofs.scan.eight_in.Statement.{statement}
 use Rattle.strtab.proofs.scan.eight_in.Tie as tie
@@ -15,10 +16,12 @@ four-in-requires-2 : tie.Need-four-in-requires-2
 four-in-requires-2 c κs = search needs
 
 add-result : tie.Need-add-result
-add-result c = search needs
+add-result c =
+    omega (arith, counted-le _ 4 _ _ (c .before .four-in .ensures), counted-le _ 4 _ _ (c .four-in2 .ensures))
 
 returns : tie.Need-returns
-returns c = halves-counted _ _ _ 4 _ _ (c .before .four-in .ensures) (c .four-in2 .ensures)
+returns c =
+    halves-counted _ (c .before .before .before .args .s .now) (c .before .before .before .args .at) 4 _ _ (c .before .four-in .ensures) (c .four-in2 .ensures)
 
 pub eight-in-spec : {M : Type 1} → statement M
 eight-in-spec =

@@ -1,4 +1,4 @@
--- `strtab::scan::four_in` meets its contract: four ones mean four bytes of the range.
+-- `strtab::scan::four_in` meets its contract: the bytes one by one.
 -- Assumes nothing.
 use Rattle.strtab.proofs.Counting.{four-counted}
 use borrow.Author.Needs.{needs}
@@ -49,9 +49,8 @@ add-result-3 c = search needs
 
 returns : tie.Need-returns
 returns c =
-    four-counted _ _ _ _ _ _ _ (c .before .before .before .before .before .before .before .before .before .pre) (c
-    .before .before .before .before .before .before .one-in .ensures) (c .before .before .before .before .one-in2
-    .ensures) (c .before .before .one-in3 .ensures) (c .one-in4 .ensures)
+    four-counted _ (c .before .before .before .before .before .before .before .before .before .args .s .now) (c .before .before .before .before .before .before .before .before .before .args .at) _ _ _ _ (c .before .before .before .before .before .before .before .before .before .pre)
+    (c .before .before .before .before .before .before .one-in .ensures .0) (c .before .before .before .before .one-in2 .ensures .0) (c .before .before .one-in3 .ensures .0) (c .one-in4 .ensures .0)
 
 pub four-in-spec : {M : Type 1} → statement M
 four-in-spec =

@@ -1,6 +1,7 @@
--- `strtab::scan::sixteen_in` meets its contract: both halves are full where the sum is.
+-- `strtab::scan::sixteen_in` meets its contract: both halves.
 -- Assumes nothing.
-use Rattle.strtab.proofs.Counting.{halves-counted}
+use native.Mathlib.Omega.{arith}
+use Rattle.strtab.proofs.Counting.{counted-le, halves-counted}
 use borrow.Author.Needs.{needs}
 use Rattle.strtab.proofs.scan.sixteen_in.Statement.{statement}
 use Rattle.strtab.proofs.scan.sixteen_in.Tie as tie
@@ -15,10 +16,12 @@ eight-in-requires-2 : tie.Need-eight-in-requires-2
 eight-in-requires-2 c κs = search needs
 
 add-result : tie.Need-add-result
-add-result c = search needs
+add-result c =
+    omega (arith, counted-le _ 8 _ _ (c .before .eight-in .ensures), counted-le _ 8 _ _ (c .eight-in2 .ensures))
 
 returns : tie.Need-returns
-returns c = halves-counted _ _ _ 8 _ _ (c .before .eight-in .ensures) (c .eight-in2 .ensures)
+returns c =
+    halves-counted _ (c .before .before .before .args .s .now) (c .before .before .before .args .at) 8 _ _ (c .before .eight-in .ensures) (c .eight-in2 .ensures)
 
 pub sixteen-in-spec : {M : Type 1} → statement M
 sixteen-in-spec =
