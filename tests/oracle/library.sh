@@ -1,6 +1,6 @@
 #!/bin/sh
-# Proves and builds what compare.sh and mutants.sh link beside the Rust: `library.sh OUT` puts libgsym.a (the C face),
-# libreader_c.a (parts of the reader) and libgsym.rlib (the binding for Rust hosts) into OUT.
+# Proves and builds what compare.sh, mutants.sh and harmed.sh link beside the Rust: `library.sh OUT` puts libgsym.a (the
+# C face), libreader_c.a (parts of the reader) and libgsym.rlib (the binding for Rust hosts) into OUT.
 set -eu
 cd "$(dirname "$0")/../.."
 out=${1:?the folder to build in}
