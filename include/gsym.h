@@ -7,7 +7,7 @@
  * threads as one likes. The file may start at any address. What each call answers and what it leaves in lent memory is
  * proved, not only tested: docs/PROMISES.md says how.
  *
- * Stack: gsym_lookup took 18,415 bytes and gsym_block_frames 14,351, measured on a tree of 64 levels (tests/c measures
+ * Stack: gsym_lookup took 18,623 bytes and gsym_block_frames 14,351, measured on a tree of 64 levels (tests/c measures
  * anew); both stay below GSYM_STACK.
  */
 #ifndef GSYM_H
