@@ -53,10 +53,11 @@ cp target/staticlib/libgsym_c.a "$tmp/libgsym.a"
 rustc --edition 2021 -C opt-level=3 --crate-type rlib --crate-name gsym -o "$tmp/libgsym.rlib" bindings/rust/src/lib.rs
 rustc --edition 2021 -C opt-level=3 -L "$tmp/whole" --extern "oracle=$tmp/whole/liboracle.rlib" -L "$tmp" \
     --extern "gsym=$tmp/libgsym.rlib" -l static=gsym -o "$tmp/lookup" bench/lookup.rs
-for file in "$tmp/vmlinux" "$corpus/cpp-gcc.gsym" "$corpus/rs-calc.gsym"; do
+set -- "$tmp/vmlinux" "$corpus/cpp-gcc.gsym" "$corpus/rs-calc.gsym"
+for file in "$@"; do "$tmp/lookup" "$file" check; done
+for file in "$@"; do
     echo
     echo "lookups in $(basename "$file"), 100,000 addresses"
-    "$tmp/lookup" "$file" check
     "$tmp/lookup" "$file" time "$passes"
     command -v valgrind >/dev/null 2>&1 || continue
     for kind in name "code info" inlining; do
@@ -64,7 +65,31 @@ for file in "$tmp/vmlinux" "$corpus/cpp-gcc.gsym" "$corpus/rs-calc.gsym"; do
         q=$(count_lookups "$file" rattle "$kind")
         echo "$kind: instructions of 10,000 lookups: Rust $r, this $q, ratio $(awk "BEGIN { printf \"%.3f\", $q / $r }")"
     done
-done
+done >"$tmp/rows"
+cat "$tmp/rows"
+
+# the table of README.md: for each file the ratios of instructions; of time, rising / shuffled
+echo
+awk -F ', ratio ' '
+    /^lookups in / { file = $1; sub(/^lookups in /, "", file); sub(/\.gsym.*|,.*/, "", file); files[++n] = file }
+    / ratio / {
+        kind = $1; sub(/:.*/, "", kind); shuffled = sub(/, shuffled/, "", kind)
+        at = file SUBSEP kind
+        if ($1 ~ /instructions/) count[at] = $2; else if (shuffled) other[at] = $2; else time[at] = $2
+    }
+    END {
+        printf "| Asked for |"; for (i = 1; i <= n; i++) printf " %s |", files[i]
+        printf "\n|---|"; for (i = 1; i <= n; i++) printf "---|"
+        split("name,code info,inlining", kinds, ",")
+        for (k = 1; k <= 3; k++) {
+            printf "\n| %s |", kinds[k]
+            for (i = 1; i <= n; i++) {
+                at = files[i] SUBSEP kinds[k]
+                printf " %s; %s / %s |", (at in count ? count[at] : "-"), time[at], other[at]
+            }
+        }
+        print ""
+    }' "$tmp/rows"
 
 echo
 echo "nanoseconds a lookup by name: entries, Rust, this"

@@ -1,7 +1,7 @@
 #!/bin/sh
 # Builds the fuzzing target: `build.sh [FOLDER]`, else target/fuzz. Proves and builds the library as hosts get it, and a
-# second time, from the same proved code, with counters for libFuzzer and with AddressSanitizer: `rattle build` is given
-# a toolchain folder whose clang is a script that adds them. Writes to the folder:
+# second time, from the same proved code, with counters for libFuzzer and with AddressSanitizer, which a script for clang
+# adds (tests/with_clang.sh). Writes to the folder:
 #   fuzz         the target over the library with counters
 #   fuzz-plain   the target over the library as hosts get it, for replaying inputs
 #   seeds        the program that makes the first inputs
@@ -10,7 +10,6 @@
 # is no clang with libFuzzer. CLANG is honoured.
 set -u
 cd "$(dirname "$0")/../.." || exit 2
-root=$PWD
 here=tests/fuzz
 clang=${CLANG:-clang}
 out=${1:-target/fuzz}
@@ -33,14 +32,10 @@ kit=$(command -v rt)
 kit=${RATTLE_HOME:-$(dirname "$(dirname "$(readlink -f "$kit")")")}
 own=$kit/on/$(uname -m)
 
-# the toolchain's folder with another clang: it reads the module, marks each function for AddressSanitizer, and compiles
-# it with what rattle asks for and the instrumentation
-other_toolchain() {
-    rm -rf "$out/toolchain"
-    mkdir -p "$out/toolchain/bin" || return 1
-    ln -s "$own/toolchain/lib" "$out/toolchain/lib"
-    ln -s "$own/toolchain/bin/ld.lld" "$own/toolchain/bin/llvm-ar" "$out/toolchain/bin/"
-    cat >"$out/toolchain/bin/clang" <<EOF
+# a script for clang: it reads the module, marks each function for AddressSanitizer, and compiles it with what rattle
+# asks for and the instrumentation
+with_counters() {
+    cat >"$out/clang" <<EOF
 #!/bin/sh
 PATH=\${PATH:-/usr/bin:/bin}
 for word in "\$@"; do
@@ -57,26 +52,15 @@ for word in "\$@"; do
 done
 exec '$own/toolchain/bin/clang' "\$@" -fsanitize-coverage=inline-8bit-counters,pc-table,trace-cmp -fsanitize=address
 EOF
-    chmod +x "$out/toolchain/bin/clang"
-}
-
-with_counters() {
-    other_toolchain || return 1
-    set -- --extern "std=$own/rlib/std.rlib"
-    for crate in $(sed -n 's/#.*//; s/^gsym_c: *//p' crates.txt); do
-        set -- "$@" --extern "$crate=$root/target/rlib/$crate.rlib"
-    done
-    "$own/bin/rattle" build --crate-name gsym_c crates/gsym_c/src/lib.rt "$@" -L "dependency=$root/target/rlib" \
-        -L "dependency=$own/rlib" --antt-project "$kit/logic/antt-project.json" --logic-built "$own/logic-built" \
-        --toolchain "$out/toolchain" --crate-type staticlib -o "$out/libgsym_counted.a"
+    sh tests/with_clang.sh "$out/clang" "$out/libgsym_counted.a"
 }
 
 # built anew only where the library, this script or the kit is another
-stamp=$(cat "$library" "$here/build.sh" "$kit/KIT-ID" 2>/dev/null | sha256sum)
+stamp=$(cat "$library" "$here/build.sh" tests/with_clang.sh "$kit/KIT-ID" 2>/dev/null | sha256sum)
 if [ "$stamp" != "$(cat "$out/stamp" 2>/dev/null)" ] || [ ! -f "$out/libgsym_counted.a" ]; then
     rm -f "$out/libgsym_counted.a" "$out/stamp"
     with_counters >"$out/log" 2>&1 && echo "$stamp" >"$out/stamp"
-    rm -rf "$out/toolchain" "$out/module.ll" "$out/module.plain.ll"
+    rm -f "$out/clang" "$out/module.ll" "$out/module.plain.ll"
 fi
 
 # ---- the target

@@ -7,7 +7,6 @@
 # python3 and the toolchain's own clang; answers 3 and says so where they are not there.
 set -eu
 cd "$(dirname "$0")/../.."
-root=$PWD
 here=tests/oracle
 words=${1:-}
 [ "$(uname -m)" = x86_64 ] || { echo "harmed: the library is for x86-64, so no fault was tried"; exit 3; }
@@ -26,12 +25,9 @@ trap 'rm -rf "$tmp"' EXIT
 sh $here/build.sh "$tmp" || exit $?
 sh $here/library.sh "$tmp"
 
-# ---- the library's LLVM text: `rattle build` is given a toolchain folder whose clang is a script that writes it
+# ---- the library's LLVM text: it is built with a script for clang that writes the text as well
 
-mkdir -p "$tmp/toolchain/bin"
-ln -s "$own/toolchain/lib" "$tmp/toolchain/lib"
-ln -s "$own/toolchain/bin/ld.lld" "$own/toolchain/bin/llvm-ar" "$tmp/toolchain/bin/"
-cat >"$tmp/toolchain/bin/clang" <<END
+cat >"$tmp/clang" <<END
 #!/bin/sh
 for word in "\$@"; do
     case \$word in
@@ -43,15 +39,7 @@ for word in "\$@"; do
 done
 exec '$own/toolchain/bin/clang' "\$@"
 END
-chmod +x "$tmp/toolchain/bin/clang"
-set -- --extern "std=$own/rlib/std.rlib"
-# shellcheck disable=SC2013
-for crate in $(sed -n 's/#.*//; s/^gsym_c: *//p' crates.txt); do
-    set -- "$@" --extern "$crate=$root/target/rlib/$crate.rlib"
-done
-"$own/bin/rattle" build --crate-name gsym_c crates/gsym_c/src/lib.rt "$@" -L "dependency=$root/target/rlib" \
-    -L "dependency=$own/rlib" --antt-project "$kit/logic/antt-project.json" --logic-built "$own/logic-built" \
-    --toolchain "$tmp/toolchain" --crate-type staticlib -o "$tmp/as_built.a" >"$tmp/log" 2>&1 ||
+sh tests/with_clang.sh "$tmp/clang" "$tmp/as_built.a" >"$tmp/log" 2>&1 ||
     { tail -n 20 "$tmp/log"; echo "harmed: the library isn't built"; exit 1; }
 cmp "$tmp/as_built.a" target/staticlib/libgsym_c.a || { echo "harmed: this is another library than hosts get"; exit 1; }
 [ -f "$tmp/as_built.ll" ] || { echo "harmed: this toolchain hands its clang no module, so no fault was tried"; exit 1; }
