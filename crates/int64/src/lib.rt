@@ -1,6 +1,8 @@
 // Signed 64-bit numbers by value: from and to their bits, sums and differences that wrap, the
 // quotient and the remainder of a byte, and a signed step from an unsigned number. Every function
 // answers at every argument; that a range of 0 stops the line program is left to the callers.
+#![tactic(auto)]
+
 ghost use Rattle.std.specs.Prelude.{◌≡◌, ◌^◌, pos, ◌+ℤ◌, ◌-ℤ◌, int_div, int_rem};
 ghost use Rattle.int64.specs.Wrap.{number_of, bits_of, modZ, wrap};
 

@@ -1,11 +1,13 @@
 // LEB128 numbers at a place of a slice (DWARF 5, section 7.6): seven bits a byte, the lowest first, the top bit set
 // where another byte follows. Padding is taken up to ten bytes (document 01, "LEB128").
+#![tactic(auto)]
+
 ghost use Rattle.std.specs.Prelude.{◌≡◌};
 ghost use Rattle.leb128.specs.Answers.{unsignedAt, passed_at, signedAt};
 
 // The unsigned number at a place, and the place after it.
 // Short: the bytes end before the number does. Wide: it is 2^64 or above, or its tenth byte asks for another.
-#[derive(Drop)]
+#[derive(Clone, Copy)]
 pub enum Unsigned {
     Value { value: u64, next: usize },
     Short,
@@ -13,7 +15,7 @@ pub enum Unsigned {
 }
 
 // The place after the unsigned number at a place, whatever its value. Short and Wide are those of `Unsigned`.
-#[derive(Drop)]
+#[derive(Clone, Copy)]
 pub enum Passed {
     Next(usize),
     Short,
@@ -23,7 +25,7 @@ pub enum Passed {
 // The signed number at a place, and the place after it.
 // Short: the bytes end before the number does. Wide: it is below -2^63 or above 2^63-1, or its tenth byte asks for
 // another.
-#[derive(Drop)]
+#[derive(Clone, Copy)]
 pub enum Signed {
     Value { value: i64, next: usize },
     Short,

@@ -1,28 +1,30 @@
 // Little-endian numbers of one, two, four and eight bytes at a place of a slice. Where fewer bytes are left from
 // the place on, or none because it lies past the end, the answer is Unread. Nothing past the slice is read.
+#![tactic(auto)]
+
 ghost use Rattle.std.specs.Prelude.{◌≡◌, ◌+◌, ◌-◌, ◌^◌, ◌<◌, ◌≤◌, length, take, drop};
 ghost use Rattle.reads.specs.Bytes.{le};
 ghost use Rattle.reads.specs.Answers.{u8_at, u16At, u32_at, u64At};
 
-#[derive(Drop)]
+#[derive(Clone, Copy)]
 pub enum Read8 {
     Value(u8),
     Unread,
 }
 
-#[derive(Drop)]
+#[derive(Clone, Copy)]
 pub enum Read16 {
     Value(u16),
     Unread,
 }
 
-#[derive(Drop)]
+#[derive(Clone, Copy)]
 pub enum Read32 {
     Value(u32),
     Unread,
 }
 
-#[derive(Drop)]
+#[derive(Clone, Copy)]
 pub enum Read64 {
     Value(u64),
     Unread,

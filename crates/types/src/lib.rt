@@ -1,33 +1,35 @@
 // The values that every other crate speaks of: kinds of number, texts as places, what is asked for and what is
 // answered, and the refusal numbers by name. Nothing is read here.
+#![tactic(auto)]
+
 ghost use Rattle.std.specs.Prelude.{◌≡◌};
 ghost use Rattle.types.specs.Refusal.{refusal};
 
 // An address of the program whose symbols the file has.
-#[derive(Drop)]
+#[derive(Clone, Copy)]
 pub struct Address(pub u64);
 
 // Where a string starts, counted from the start of the string table.
-#[derive(Drop)]
+#[derive(Clone, Copy)]
 pub struct StrOffset(pub u32);
 
 // A row of the file table.
-#[derive(Drop)]
+#[derive(Clone, Copy)]
 pub struct FileIndex(pub u32);
 
 // A line of a source file.
-#[derive(Drop)]
+#[derive(Clone, Copy)]
 pub struct LineNumber(pub u32);
 
 // A string by where it stands: place counted from the file's start, and length, both in bytes.
-#[derive(Drop)]
+#[derive(Clone, Copy)]
 pub struct Text {
     pub place: usize,
     pub len: usize,
 }
 
 // What a lookup is asked for beside the symbol: its source position, and the calls inlined at the address.
-#[derive(Drop)]
+#[derive(Clone, Copy)]
 pub struct Options {
     pub code_info: bool,
     pub inlining: bool,
@@ -35,7 +37,7 @@ pub struct Options {
 
 // What a lookup answers. Number 0: the symbol, its position if has_code, and how many records were written.
 // Any other number is a refusal, and every other field is zero.
-#[derive(Drop)]
+#[derive(Clone, Copy)]
 pub struct Answer {
     pub number: u8,
     pub addr: Address,
@@ -49,7 +51,7 @@ pub struct Answer {
 }
 
 // A frame as the call that reads a single block writes it.
-#[derive(Drop)]
+#[derive(Clone, Copy)]
 pub struct InlineFrame {
     pub name: StrOffset,
     pub call_file: FileIndex,
@@ -57,7 +59,7 @@ pub struct InlineFrame {
 }
 
 // A later frame as lookup writes it.
-#[derive(Drop)]
+#[derive(Clone, Copy)]
 pub struct Frame {
     pub name: Text,
     pub dir: Text,
