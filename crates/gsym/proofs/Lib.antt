@@ -1,5 +1,4 @@
-mod Overs
-mod Listings
-mod Lines
-mod Poured
-mod Records
+pub mod Overs
+pub mod Listings
+pub mod Lines
+pub mod Records

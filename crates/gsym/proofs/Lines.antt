@@ -169,6 +169,6 @@ lookup-lined file addr o room = go (outcome file addr o room)
     go : Outcome file addr o room → Lined (lookupOf file addr o room).frames
     go (refused n e) = subst (λ (l : Looked). Lined l.frames) (sym e) tt
     go (said L size name p cs k e) =
-        let S = (say-saying _ _ L.data_of addr o room size name p cs k).1 in
-        let l = saying-lined _ _ L.data_of addr o room name p cs S in
+        let S = (say-saying _ _ L.data-of addr o room size name p cs k).1 in
+        let l = saying-lined _ _ L.data-of addr o room name p cs S in
         subst (λ (l : Looked). Lined l.frames) (sym e) (spelt-lined _ _ cs l)

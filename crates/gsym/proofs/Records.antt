@@ -1,30 +1,20 @@
--- A lookup by value: the numbers of a store as records, and what they come to.
+-- The records of a lookup are those that the numbers of its store say.
 -- Assumes nothing.
-use Prim.Native.Nat.{ℕ, zero, suc, ◌+◌, ◌*◌, ◌%◌, ◌^◌, ◌≤◌, ◌<◌, min}
-use mathlib.Core.List.{List, [], ◌∷◌, ◌++◌}
-use mathlib.Core.Path.{◌≡◌, refl, sym, ap, ◌∙◌}
-use lib.ListN.{length, get_or, set, take, replicate, length-append, length-replicate}
-use lib.Seq.{get_or-take, length-take-le}
-use native.Mathlib.Nat.{le_antisymm}
-use native.Mathlib.Numerals.{add-one}
-use native.Mathlib.Omega.{arith}
+use Rattle.std.proofs.Common.{◌≡◌, ℕ, zero, suc, ◌+◌, ◌*◌, ◌%◌, ◌^◌, ◌≤◌, ◌<◌, List, [], ◌∷◌, ◌++◌, length, get_or, take, replicate, min, refl, sym, ap, ◌∙◌, ⊎_elim, arith, get_or-take, length-append, length-take}
+use Rattle.std.proofs.lemmas.List.{length-replicate}
 use Rattle.types.specs.declared.Address.{Address}
 use Rattle.types.specs.declared.Answer.{Answer}
 use Rattle.types.specs.declared.Frame.{Frame}
 use Rattle.types.specs.declared.Options.{Options}
-use Rattle.resolver.specs.Spell.{Looked}
 use Rattle.resolver.specs.Lookup.{lookupOf}
 use Rattle.resolver.specs.Rows.{numbersOf, flatFrames, recordsIn, Looks}
-use Rattle.resolver.proofs.Rooms.{count-is}
-use Rattle.gsym.specs.declared.lookups.Looked64.{Looked64}
-use Rattle.gsym.specs.Lists.{over, noFrame, recordAt, recordsAt, looked64}
-use Rattle.gsym.proofs.Overs.{over-more}
+use Rattle.resolver.proofs.Rooms.{count-is, count_room}
+use Rattle.gsym.specs.Lists.{recordAt, recordsAt}
 use Rattle.gsym.proofs.Lines.{Lined, lookup-lined}
-use Rattle.gsym.proofs.Poured.{records-room}
 
 -- ---- records by their numbers
 
-records-length : (n : ℕ) (xs : List ℕ) → length (recordsAt n xs) ≡ n
+pub records-length : (n : ℕ) (xs : List ℕ) → length (recordsAt n xs) ≡ n
 unfolding recordsAt
 records-length zero xs = refl
 records-length (suc n) xs =
@@ -32,16 +22,23 @@ records-length (suc n) xs =
     omega (arith, length-append (recordsAt n xs) (recordAt n xs ∷ []))
 
 -- behind a record the next ones stand one further
+number-behind :
+    (f : Frame) (xs : List ℕ) (j k : ℕ) → j ≡ k + 7 → get_or (numbersOf f ++ xs) j 0 ≡ get_or xs k 0
+number-behind f xs j k e =
+    let seven : j ≡ suc (suc (suc (suc (suc (suc (suc k)))))) = omega arith in
+    rw seven
+
 record-behind : (f : Frame) (xs : List ℕ) (i : ℕ) → recordAt (suc i) (numbersOf f ++ xs) ≡ recordAt i xs
 record-behind f xs i =
-    let e0 : 7 * suc i ≡ suc (suc (suc (suc (suc (suc (suc (7 * i))))))) = omega arith in
-    let e1 : 7 * suc i + 1 ≡ suc (suc (suc (suc (suc (suc (suc (7 * i + 1))))))) = omega arith in
-    let e2 : 7 * suc i + 2 ≡ suc (suc (suc (suc (suc (suc (suc (7 * i + 2))))))) = omega arith in
-    let e3 : 7 * suc i + 3 ≡ suc (suc (suc (suc (suc (suc (suc (7 * i + 3))))))) = omega arith in
-    let e4 : 7 * suc i + 4 ≡ suc (suc (suc (suc (suc (suc (suc (7 * i + 4))))))) = omega arith in
-    let e5 : 7 * suc i + 5 ≡ suc (suc (suc (suc (suc (suc (suc (7 * i + 5))))))) = omega arith in
-    let e6 : 7 * suc i + 6 ≡ suc (suc (suc (suc (suc (suc (suc (7 * i + 6))))))) = omega arith in
-    rw (e1, e2, e3, e4, e5, e6, e0)
+    rw (
+      number-behind f xs (7 * suc i) (7 * i) (omega arith),
+      number-behind f xs (7 * suc i + 1) (7 * i + 1) (omega arith),
+      number-behind f xs (7 * suc i + 2) (7 * i + 2) (omega arith),
+      number-behind f xs (7 * suc i + 2 + 1) (7 * i + 2 + 1) (omega arith),
+      number-behind f xs (7 * suc i + 4) (7 * i + 4) (omega arith),
+      number-behind f xs (7 * suc i + 4 + 1) (7 * i + 4 + 1) (omega arith),
+      number-behind f xs (7 * suc i + 6) (7 * i + 6) (omega arith),
+    )
 
 records-behind :
     (f : Frame) (xs : List ℕ) (n : ℕ) →
@@ -76,9 +73,9 @@ records-agree (suc n) xs ys h =
       h (7 * n) (omega arith),
       h (7 * n + 1) (omega arith),
       h (7 * n + 2) (omega arith),
-      h (7 * n + 3) (omega arith),
+      h (7 * n + 2 + 1) (omega arith),
       h (7 * n + 4) (omega arith),
-      h (7 * n + 5) (omega arith),
+      h (7 * n + 4 + 1) (omega arith),
       h (7 * n + 6) (omega arith),
     )
 
@@ -91,67 +88,41 @@ records-front fs xs n l c e =
     ∙ ap (λ (k : ℕ). recordsAt k (flatFrames fs)) c
     ∙ records-flat fs l
 
--- ---- the loop
-
--- one more record is read
-pub records-more :
-    (items : List Frame) (xs : List ℕ) (k : ℕ) → k < 64 → (g : Frame) → g ≡ recordAt k xs →
-    items ≡ over (recordsAt k xs) (replicate 64 noFrame) →
-    set items k g ≡ over (recordsAt (k + 1) xs) (replicate 64 noFrame)
-unfolding recordsAt
-records-more items xs k h g p e =
-    let l : k < length (replicate 64 noFrame) = omega (arith, length-replicate 64 noFrame) in
-    ap (λ (t : List Frame). set t k g) e
-    ∙ ap (λ (t : Frame). set (over (recordsAt k xs) (replicate 64 noFrame)) k t) p
-    ∙ over-more (recordsAt k xs) (replicate 64 noFrame) noFrame (recordAt k xs) k (records-length k xs) l
-    ∙ ap (λ (n : ℕ). over (recordsAt n xs) (replicate 64 noFrame)) (sym (add-one k))
-
-pub records-all :
-    (items : List Frame) (xs : List ℕ) (count k : ℕ) → k ≤ count → count ≤ k →
-    items ≡ over (recordsAt k xs) (replicate 64 noFrame) → items ≡ over (recordsAt count xs) (replicate 64 noFrame)
-records-all items xs count k l m e =
-    e ∙ ap (λ (n : ℕ). over (recordsAt n xs) (replicate 64 noFrame)) (le_antisymm l m)
-
 -- ---- the answer
 
-module _ (file : List ℕ) (addr : Address) (o : Options) (entry exit : List ℕ) (r : Answer)
-    (L : Looks file addr o entry exit r) where
-  abbrev given : Looked
-  given = lookupOf file addr o (recordsIn entry)
+-- records are no more than the room
+pub records-room :
+    (file : List ℕ) (addr : Address) (o : Options) (room : ℕ) → length (lookupOf file addr o room).frames ≤ room
+records-room file addr o room =
+    let c = count-is file addr o room in
+    ⊎_elim
+    (λ (z : (lookupOf file addr o room).answer.count ≡ 0). omega arith)
+    (λ (l : (lookupOf file addr o room).answer.count + 1 ≤ room). omega arith)
+    (count_room file addr o room)
 
-  count-told : r.count ≡ length given.frames
-  count-told = ap (λ (a : Answer). a.count) L.says ∙ count-is file addr o (recordsIn entry)
+-- space for the numbers of so many records, as a lookup makes it
+abbrev pub space_for : ℕ → List ℕ
+space_for n = take (7 * n) (replicate 448 0)
 
-  -- there are no more than can be read back
-  pub count_fits : (7 * r.count ≤ length exit) × (r.count ≤ 64)
-  count_fits =
-      let m = records-room file addr o (recordsIn entry) in
-      (omega (arith, count-told, L.kept), omega (arith, count-told))
+module _ (file : List ℕ) (addr : Address) (o : Options) (len n : ℕ) (exit : List ℕ) (r : Answer) (m : n ≡ min len 64)
+    (L : Looks file addr o (space_for n) exit r) where
+  room : recordsIn (space_for n) ≡ min 64 len
+  room = omega (arith, length-take (7 * n) (replicate {A = ℕ} 448 0), length-replicate {A = ℕ} 448 0)
 
-  pub looked-read :
-      (items : List Frame) → items ≡ over (recordsAt r.count exit) (replicate 64 noFrame) →
-      record { items = items; count = r.count; answer = r } ≡ looked64 (lookupOf file addr o (recordsIn entry))
-  unfolding looked64
-  looked-read items e =
-      let l = lookup-lined file addr o (recordsIn entry) in
-      let i : items ≡ over given.frames (replicate 64 noFrame) =
-      e
-      ∙ ap (λ (fs : List Frame). over fs (replicate 64 noFrame))
-      (records-front given.frames exit r.count l count-told L.records) in
-      ap (λ (fs : List Frame). record { items = fs; count = r.count; answer = r }) i
-      ∙ ap (λ (n : ℕ). record { items = over given.frames (replicate 64 noFrame); count = n; answer = r }) count-told
-      ∙ ap (λ (a : Answer). record {
-        items = over given.frames (replicate 64 noFrame);
-        count = length given.frames;
-        answer = a;
-      }) L.says
+  given : r.count ≡ length (lookupOf file addr o (recordsIn (space_for n))).frames
+  given = ap (λ (a : Answer). a.count) L.says ∙ count-is file addr o (recordsIn (space_for n))
 
--- the front of a store has room for as many records as a list of `len`
-pub looked-at :
-    (file : List ℕ) (addr : Address) (o : Options) (space : List ℕ) (n len : ℕ) (r : Looked64) →
-    448 ≡ length space → n ≡ 7 * min 64 len → r ≡ looked64 (lookupOf file addr o (recordsIn (take n space))) →
-    r ≡ looked64 (lookupOf file addr o (min 64 len))
-looked-at file addr o space n len r l m e =
-    let k : length (take n space) ≡ n = length-take-le n space (omega arith) in
-    let room : recordsIn (take n space) ≡ min 64 len = omega arith in
-    e ∙ ap (λ (n : ℕ). looked64 (lookupOf file addr o n)) room
+  few : r.count ≤ recordsIn (space_for n)
+  few = omega (arith, given, records-room file addr o (recordsIn (space_for n)))
+
+  -- the records are in the store, and there is room for them in the list
+  pub in_store : 7 * r.count ≤ length exit
+  in_store = omega (arith, few, L.kept)
+
+  pub in_list : r.count ≤ len
+  in_list = omega (arith, few, room)
+
+  pub records-read : recordsAt r.count exit ≡ (lookupOf file addr o (min 64 len)).frames
+  records-read =
+      records-front _ exit r.count (lookup-lined file addr o (recordsIn (space_for n))) given L.records
+      ∙ ap (λ (k : ℕ). (lookupOf file addr o k).frames) room

@@ -1,11 +1,11 @@
 // What a user names (document 01): lookup, and the frames of a single block, into a list that the caller lends; the
 // part of a file that a string is; and an opened file. All answers are those of `resolver`, `inline` and `strtab`.
-//   blocks    the frames of a block by value
-//   lookups   a lookup by value
-//   pours     the copy to the lent list
+//   blocks    the frames of a block, from numbers to the lent list
+//   lookups   the records of a lookup, from numbers to the lent list
+#![tactic(auto)]
+
 mod blocks;
 mod lookups;
-mod pours;
 
 ghost use Rattle.std.specs.Prelude.{◌≡◌};
 ghost use Rattle.inline.specs.Block.{block_of, listing};
@@ -13,12 +13,11 @@ ghost use Rattle.resolver.specs.Lookup.{lookupOf};
 ghost use Rattle.strtab.specs.Strings.{part_of};
 ghost use Rattle.gsym.specs.Lists.{room_for, writtenOver, blockOver};
 
-use blocks::block_core;
+use blocks::{FRAME_WIDTH, copy_frames};
 use inline::Listed;
-use lookups::lookup_core;
-use pours::{pour_frames, pour_inline};
+use lookups::{RECORD_WIDTH, copy_records};
 pub use strtab::text;
-use types::{Address, Answer, Frame, InlineFrame, Options, Text};
+use types::{Address, Answer, Frame, InlineFrame, MAX_FRAMES, Options, Text};
 
 // The frames of one block at an address, for the symbol that the block belongs to, written over the first records of
 // `frames`: name, call file, call line. There is room for the smaller of 64 and the list's length. Records past the
@@ -29,44 +28,40 @@ pub fn block_frames(
     addr: Address,
     frames: &mut [InlineFrame],
 ) -> Listed
-    ensures { (result ≡ listing (block_of symbol.0 addr.0 (room_for frames.old) block.now))
-        × (frames.new
-        ≡ blockOver (block_of symbol.0 addr.0 (room_for frames.old) block.now)
-        frames.old) }
+    ensures answer { result ≡ listing (block_of symbol.0 addr.0 (room_for frames.old) block.now) }
+    ensures list { frames.new
+        ≡ blockOver (block_of symbol.0 addr.0 (room_for frames.old) block.now) frames.old }
 {
-    let r = block_core(block, symbol, addr, frames.len());
-    let items = r.items;
-    pour_inline(frames, items, r.count);
-    Listed {
-        number: r.number,
-        count: r.count,
-    }
+    let mut space = [0; FRAME_WIDTH * MAX_FRAMES];
+    let store = &mut space[..FRAME_WIDTH * frames.len().min(MAX_FRAMES)];
+    let listed = inline::block_in(block, symbol, addr, store);
+    copy_frames(store, listed.count, frames);
+    listed
 }
 
-// `lookup` where inlined calls are asked for.
+// `lookup` where both are asked for.
 fn lookup_inlined(file: &[u8], addr: Address, options: Options, frames: &mut [Frame]) -> Answer
-    ensures { (result ≡ (lookupOf file.now addr options (room_for frames.old)).answer)
-        × (frames.new
-        ≡ writtenOver (lookupOf file.now addr options (room_for frames.old))
-        frames.old) }
+    ensures answer { result ≡ (lookupOf file.now addr options (room_for frames.old)).answer }
+    ensures list { frames.new
+        ≡ writtenOver (lookupOf file.now addr options (room_for frames.old)) frames.old }
 {
-    let r = lookup_core(file, addr, options, frames.len());
-    let items = r.items;
-    pour_frames(frames, items, r.count);
-    r.answer
+    let mut space = [0; RECORD_WIDTH * MAX_FRAMES];
+    let store = &mut space[..RECORD_WIDTH * frames.len().min(MAX_FRAMES)];
+    let answer = resolver::lookup_in(file, addr, options, store);
+    copy_records(store, answer.count, frames);
+    answer
 }
 
 // The symbol of an address with all that is asked for. Each later frame becomes a record, written over the first ones
 // of `frames`: name, directory, file, line. There is room for the smaller of 64 and the list's length, which counts the
 // block's first frame, though that becomes no record. Records past the count stay as they are, and a refusal, 1 to 14,
-// changes none. Without inlining the list isn't touched, and nothing is kept for frames.
+// changes none. Without both options the list isn't touched, and nothing is kept for frames.
 pub fn lookup(file: &[u8], addr: Address, options: Options, frames: &mut [Frame]) -> Answer
-    ensures { (result ≡ (lookupOf file.now addr options (room_for frames.old)).answer)
-        × (frames.new
-        ≡ writtenOver (lookupOf file.now addr options (room_for frames.old))
-        frames.old) }
+    ensures answer { result ≡ (lookupOf file.now addr options (room_for frames.old)).answer }
+    ensures list { frames.new
+        ≡ writtenOver (lookupOf file.now addr options (room_for frames.old)) frames.old }
 {
-    if options.inlining {
+    if options.code_info && options.inlining {
         lookup_inlined(file, addr, options, frames)
     } else {
         resolver::lookup_plain(file, addr, options.code_info)
@@ -74,31 +69,48 @@ pub fn lookup(file: &[u8], addr: Address, options: Options, frames: &mut [Frame]
 }
 
 // An opened file: the bytes that it was opened on.
-#[derive(Drop)]
+#[derive(Clone, Copy)]
 pub struct Gsym<'a> {
     pub file: &'a [u8],
 }
 
+impl<'a> Gsym<'a> {
+    // `lookup` on the bytes that the file was opened on.
+    pub fn lookup(&self, addr: Address, options: Options, frames: &mut [Frame]) -> Answer
+        ensures answer { result ≡ (lookupOf self.now.file.now addr options (room_for frames.old)).answer }
+        ensures list { frames.new
+            ≡ writtenOver (lookupOf self.now.file.now addr options (room_for frames.old)) frames.old }
+    {
+        lookup(self.file, addr, options, frames)
+    }
+
+    // `text` on the bytes that the file was opened on.
+    pub fn text(&self, t: Text) -> &'a [u8]
+        ensures { result.now ≡ part_of self.now.file.now t.place t.len }
+    {
+        text(self.file, t)
+    }
+}
+
 // Opening judges nothing.
-pub fn open<'a>(file: &'a [u8]) -> Gsym<'a>
+pub fn open(file: &[u8]) -> Gsym<'_>
     ensures { result.file ≡ file.entry }
 {
     Gsym { file }
 }
 
-// `lookup` on the bytes that the file was opened on.
-pub fn lookup_in<'a>(g: Gsym<'a>, addr: Address, options: Options, frames: &mut [Frame]) -> Answer
-    ensures { (result ≡ (lookupOf g.entry.file.now addr options (room_for frames.old)).answer)
-        × (frames.new
-        ≡ writtenOver (lookupOf g.entry.file.now addr options (room_for frames.old))
-        frames.old) }
+// `Gsym::lookup` as a function.
+pub fn lookup_in(g: Gsym<'_>, addr: Address, options: Options, frames: &mut [Frame]) -> Answer
+    ensures answer { result ≡ (lookupOf g.entry.file.now addr options (room_for frames.old)).answer }
+    ensures list { frames.new
+        ≡ writtenOver (lookupOf g.entry.file.now addr options (room_for frames.old)) frames.old }
 {
-    lookup(g.file, addr, options, frames)
+    g.lookup(addr, options, frames)
 }
 
-// `text` on the bytes that the file was opened on.
+// `Gsym::text` as a function.
 pub fn text_in<'a>(g: Gsym<'a>, t: Text) -> &'a [u8]
     ensures { result.now ≡ part_of g.entry.file.now t.place t.len }
 {
-    text(g.file, t)
+    g.text(t)
 }

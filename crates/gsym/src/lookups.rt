@@ -1,107 +1,44 @@
-// A lookup by value, with inlined calls: at most 64 records, which the public call copies to the lent list.
-ghost use Rattle.std.specs.Prelude.{◌≡◌, ◌*◌, ◌+◌, ◌≤◌, min, length, replicate};
-ghost use Rattle.resolver.specs.Lookup.{lookupOf};
-ghost use Rattle.resolver.specs.Rows.{recordsIn};
-ghost use Rattle.gsym.specs.Lists.{over, noFrame, recordAt, recordsAt, looked64};
+// The records of a lookup, from a store of numbers to the front of a lent list.
+ghost use Rattle.std.specs.Prelude.{◌≡◌, ◌*◌, ◌+◌, ◌≤◌, length};
+ghost use Rattle.gsym.specs.Lists.{over, textAt, recordAt, recordsAt};
 
-use types::{Address, Answer, Frame, LineNumber, Options, Text};
+use types::{Frame, LineNumber, Text};
 
 // A record takes seven numbers of a store: place and length of name, directory and file, and the line.
-const RECORD_WIDTH: usize = 7;
+pub(crate) const RECORD_WIDTH: usize = 7;
 
-// Up to 64 records, of which `count` are there and the others zero, and the answer. A refusal has no record.
-#[derive(Drop)]
-pub(crate) struct Looked64 {
-    pub items: [Frame; 64],
-    pub count: usize,
-    pub answer: Answer,
-}
-
-// Room for the numbers of 64 records.
-fn record_room() -> [u64; 448]
-    ensures { 448 ≡ length result }
+// Record i of a store. The caller gives one that is there. Its line takes 32 bits.
+fn record_from(store: &[u64], i: usize) -> Frame
+    requires { 7 * i + 7 ≤ length store.now }
+    ensures { result ≡ recordAt i store.now }
 {
-    [0; 448]
-}
-
-// How many numbers the records take that a list of so many has room for.
-fn record_numbers(len: usize) -> usize
-    ensures { result ≡ 7 * min 64 len }
-{
-    if types::MAX_FRAMES < len {
-        return RECORD_WIDTH * types::MAX_FRAMES;
+    let at = RECORD_WIDTH * i;
+    Frame {
+        name: text_from(store, at),
+        dir: text_from(store, at + 2),
+        file: text_from(store, at + 4),
+        line: LineNumber((store[at + 6] % 0x1_0000_0000) as u32),
     }
-    RECORD_WIDTH * len
 }
 
-// Record k of a store. The caller gives one that is there.
-fn record_at(store: &[u64], k: usize) -> Frame
-    requires { 7 * k + 7 ≤ length store.now }
-    ensures { result ≡ recordAt k store.now }
+// The text at a place of a store, by place and length. The caller gives one that is there.
+fn text_from(store: &[u64], at: usize) -> Text
+    requires { at + 2 ≤ length store.now }
+    ensures { result ≡ textAt at store.now }
 {
-    let at = RECORD_WIDTH * k;
-    let name = Text {
+    Text {
         place: store[at] as usize,
         len: store[at + 1] as usize,
-    };
-    let dir = Text {
-        place: store[at + 2] as usize,
-        len: store[at + 3] as usize,
-    };
-    let file = Text {
-        place: store[at + 4] as usize,
-        len: store[at + 5] as usize,
-    };
-    let line = LineNumber((store[at + 6] % 0x1_0000_0000) as u32);
-    Frame {
-        name,
-        dir,
-        file,
-        line,
     }
 }
 
-// The first records of a store. The caller gives no more than are there.
-fn records_from(store: &[u64], count: usize) -> [Frame; 64]
-    requires { (7 * count ≤ length store.now) × (count ≤ 64) }
-    ensures { result ≡ over (recordsAt count store.now) (replicate 64 noFrame) }
+// Copies the first records of a store. The caller gives no more than are there, and than the list has.
+pub(crate) fn copy_records(store: &[u64], count: usize, frames: &mut [Frame])
+    requires in_store { 7 * count ≤ length store.now }
+    requires in_list { count ≤ length frames.old }
+    ensures { frames.new ≡ over (recordsAt count store.now) frames.old }
 {
-    let none = Text { place: 0, len: 0 };
-    let empty = Frame {
-        name: none,
-        dir: none,
-        file: none,
-        line: LineNumber(0),
-    };
-    let mut items = [empty; 64];
-    let mut k: usize = 0;
-    while k < count {
-        items[k] = record_at(store, k);
-        k += 1;
+    for i in 0..count {
+        frames[i] = record_from(store, i);
     }
-    items
-}
-
-// A lookup over a store for the numbers of its records.
-fn lookup_over(file: &[u8], addr: Address, options: Options, store: &mut [u64]) -> Looked64
-    ensures { result ≡ looked64 (lookupOf file.now addr options (recordsIn store.old)) }
-{
-    let answer = resolver::lookup_in(file, addr, options, store);
-    let count = answer.count;
-    let items = records_from(store, count);
-    Looked64 {
-        items,
-        count,
-        answer,
-    }
-}
-
-// A lookup for a lent list of `len` records.
-pub(crate) fn lookup_core(file: &[u8], addr: Address, options: Options, len: usize) -> Looked64
-    ensures { result ≡ looked64 (lookupOf file.now addr options (min 64 len)) }
-{
-    let mut space = record_room();
-    let all: &mut [u64] = &mut space;
-    let n = record_numbers(len);
-    lookup_over(file, addr, options, &mut all[..n])
 }

@@ -93,6 +93,7 @@ module _ (addr base : ℕ) (n : Node) (kids rest : Forest) where
 up-to-child : (p q : NodePath) (k : ℕ) → UpTo p q → UpTo p (child q k)
 up-to-child (top i) (top j) k u = u
 up-to-child (top i) (under j q) k u = u
+up-to-child (under i p) (top j) k u = elim u [ ]
 up-to-child (under i p) (under j q) k u = (u.0, up-to-child p q k u.1)
 
 parent_of : (p : NodePath) → ((i : ℕ) × (p ≡ top i)) ⊎ ((q : NodePath) × (k : ℕ) × (p ≡ child q k))

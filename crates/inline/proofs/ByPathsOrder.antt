@@ -88,6 +88,7 @@ before-total (under i p) (under j q) = by_first (under i p) (under j q) (λ e. g
 pub parents-first : (p q : NodePath) → UpTo p q → (p ≡ q) ⊎ Before p q
 parents-first (top i) (top j) u = inl (ap top u)
 parents-first (top i) (under j q) u = inr (parent u)
+parents-first (under i p) (top j) u = elim u [ ]
 parents-first (under i p) (under j q) u = go (parents-first p q u.1)
   where
     go : (p ≡ q) ⊎ Before p q → (under i p ≡ under j q) ⊎ Before (under i p) (under j q)
@@ -107,6 +108,10 @@ pub children-in-order :
     (r : NodePath) (i j : ℕ) (p q : NodePath) → i < j → UpTo (child r i) p → UpTo (child r j) q → Before p q
 children-in-order (top m) i j (under k p) (under l q) h u v =
     inside (sym u.0 ∙ v.0) (siblings-in-order i j p q h u.1 v.1)
+children-in-order (top m) i j (top _) q h u v = elim u [ ]
+children-in-order (top m) i j (under k p) (top _) h u v = elim v [ ]
+children-in-order (under m r) i j (top _) q h u v = elim u [ ]
+children-in-order (under m r) i j (under k p) (top _) h u v = elim v [ ]
 children-in-order (under m r) i j (under k p) (under l q) h u v =
     inside (sym u.0 ∙ v.0) (children-in-order r i j p q h u.1 v.1)
 

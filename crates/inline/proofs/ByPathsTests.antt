@@ -32,6 +32,7 @@ module _
         go false p below q = let i = below q in (i.0, Memᴰ.tail i.1, i.2)
 
     any_of : (r : Range) (rs : List Range) → Memᴰ r rs → test r ≡ true → any rs ≡ true
+    any_of r [] m h = elim m [ ]
     any_of r (x ∷ xs) (Memᴰ.head e) h = any-cons x xs ∙ ap (λ t. pick t true (any xs)) (sym (ap test e) ∙ h)
     any_of r (x ∷ xs) (Memᴰ.tail m) h =
         any-cons x xs ∙ ap (pick (test x) true) (any_of r xs m h) ∙ go (test x)

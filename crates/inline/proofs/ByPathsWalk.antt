@@ -30,11 +30,13 @@ up-to-self (under i p) = (refl, up-to-self p)
 up-to-later : (p q : NodePath) → UpTo p q → UpTo (later p) (later q)
 up-to-later (top i) (top j) u = ap suc u
 up-to-later (top i) (under j q) u = ap suc u
+up-to-later (under i p) (top j) u = elim u [ ]
 up-to-later (under i p) (under j q) u = (ap suc u.0, u.1)
 
 up-to-later-inv : (p q : NodePath) → UpTo p (later q) → (r : NodePath) × (p ≡ later r) × UpTo r q
 up-to-later-inv (top i) (top j) u = (top j, ap top u, refl)
 up-to-later-inv (top i) (under j q) u = (top j, ap top u, refl)
+up-to-later-inv (under i p) (top j) u = elim u [ ]
 up-to-later-inv (under i p) (under j q) u = (under j p, ap (λ k. under k p) u.0, (refl, u.1))
 
 -- ---- the node at a path

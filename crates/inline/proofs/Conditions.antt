@@ -8,6 +8,7 @@ use native.Mathlib.Omega.{arith}
 use borrow.Author.Tests.{le-ltb, ltb-false}
 use Rattle.reads.specs.Pick.{pick}
 use Rattle.inline.specs.Tree.{Forest, none, tree}
+use Rattle.inline.specs.Frames.{childBase}
 use Rattle.inline.specs.Fits.{mostFile, anyLarge, Fits, depth}
 use Rattle.inline.specs.Said.{deepIn}
 use Rattle.inline.specs.Reads.{EachJudged}
@@ -69,16 +70,16 @@ pub fits_both : (addr base : ℕ) (t : Forest) → Sums addr base t → Files ad
 unfolding EachJudged Fits
 fits_both addr base none S F = tt
 fits_both addr base (tree self kids rest) S F =
-    (S.0, F.0, (λ h. fits_both addr _ kids (S.1 h) (F.1 h)), fits_both addr base rest S.2 F.2)
+    (S.0, F.0, (λ h. fits_both addr (childBase base self) kids (S.1 h) (F.1 h)), fits_both addr base rest S.2 F.2)
 
 pub fits-sums : (addr base : ℕ) (t : Forest) → Fits addr base t → Sums addr base t
 unfolding EachJudged Fits
 fits-sums addr base none F = tt
 fits-sums addr base (tree self kids rest) F =
-    (F.0, (λ h. fits-sums addr _ kids (F.2 h)), fits-sums addr base rest F.3)
+    (F.0, (λ h. fits-sums addr (childBase base self) kids (F.2 h)), fits-sums addr base rest F.3)
 
 pub fits-files : (addr base : ℕ) (t : Forest) → Fits addr base t → Files addr base t
 unfolding EachJudged Fits
 fits-files addr base none F = tt
 fits-files addr base (tree self kids rest) F =
-    (F.1, (λ h. fits-files addr _ kids (F.2 h)), fits-files addr base rest F.3)
+    (F.1, (λ h. fits-files addr (childBase base self) kids (F.2 h)), fits-files addr base rest F.3)

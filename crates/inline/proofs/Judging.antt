@@ -22,7 +22,6 @@ use Rattle.inline.specs.declared.head.Tail.TheVariants as tail
 use Rattle.inline.specs.declared.judge.Ctx.{Ctx}
 use Rattle.inline.specs.declared.judge.Span.{Span}
 use Rattle.inline.specs.declared.judge.Span.TheVariants as span
-use Rattle.inline.specs.declared.judge.Judged.{Judged}
 use Rattle.inline.specs.declared.judge.Seen.{Seen}
 use Rattle.inline.specs.declared.judge.Seen.TheVariants as seen
 use Rattle.inline.proofs.Numbers.{pick-ap}

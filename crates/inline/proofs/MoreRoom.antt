@@ -33,7 +33,7 @@ use Rattle.inline.specs.Walk.{
   walkList,
   walkNode,
 }
-use Rattle.inline.specs.Block.{Block, listed, refused, faultNo, blockFrom, block_of}
+use Rattle.inline.specs.Block.{refused, faultNo, blockFrom, block_of}
 use Rattle.inline.specs.declared.head.Fault.TheVariants as fault
 use Rattle.inline.specs.declared.judge.Ctx.{Ctx}
 use Rattle.inline.specs.declared.judge.Judged.{Judged}

@@ -30,7 +30,7 @@ use Rattle.inline.specs.Walk.{
   walkList,
   walkNode,
 }
-use Rattle.inline.specs.Torn.{Torn, inside, Read, got, torn, withRest, with_list, readRaw, readList}
+use Rattle.inline.specs.Torn.{Torn, Read, got, torn, withRest, with_list, readRaw, readList}
 use Rattle.inline.specs.Said.{
   Said,
   fine,

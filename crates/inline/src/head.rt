@@ -8,7 +8,7 @@ use reads::{Read8, Read32};
 use types::{LineNumber, StrOffset};
 
 // Why a number doesn't read: the bytes end before it does, or it is too wide.
-#[derive(Drop)]
+#[derive(Clone, Copy)]
 pub enum Cause {
     Short,
     Wide,
@@ -16,7 +16,7 @@ pub enum Cause {
 
 // What ends the reading of a block. Unread: the bytes don't read. Sum: a start or an end of a range exceeds 2^64-1.
 // CallFile: a call file above 4,294,967,295. Level: a node on level 65. Room: more frames than room.
-#[derive(Drop)]
+#[derive(Clone, Copy)]
 pub enum Fault {
     Unread(Cause),
     Sum,
@@ -26,21 +26,21 @@ pub enum Fault {
 }
 
 // A number and the place after it.
-#[derive(Drop)]
+#[derive(Clone, Copy)]
 pub(crate) enum Num {
     Value(u64, usize),
     Bad(Cause),
 }
 
 // The place after the ranges.
-#[derive(Drop)]
+#[derive(Clone, Copy)]
 enum Place {
     At(usize),
     Bad(Cause),
 }
 
 // What follows the ranges, and the place after it.
-#[derive(Drop)]
+#[derive(Clone, Copy)]
 struct Rest {
     pub kids: u8,
     pub name: u32,
@@ -50,7 +50,7 @@ struct Rest {
 }
 
 // Cut: it doesn't read as far as the call file. Late: the call file reads, the call line doesn't.
-#[derive(Drop)]
+#[derive(Clone, Copy)]
 enum Tail {
     Cut(Cause),
     Late(u64, Cause),
@@ -59,7 +59,7 @@ enum Tail {
 
 // A whole head: how many ranges there are and where the first stands, the children byte, name, call file (which is not
 // judged), call line, and the place after the head.
-#[derive(Drop)]
+#[derive(Clone, Copy)]
 pub struct NodeHead {
     pub ranges: u64,
     pub first: usize,
@@ -71,7 +71,7 @@ pub struct NodeHead {
 }
 
 // End: a range count of 0 ends the list, and the place after it.
-#[derive(Drop)]
+#[derive(Clone, Copy)]
 pub enum Head {
     End(usize),
     Bad(Fault),

@@ -16,7 +16,7 @@ const CALL_FILE_MAX: u64 = 0xffff_ffff;
 
 // What goes down the tree: the level of the nodes in hand, 1 for the root; the address asked for; where their offsets
 // count from; and how many frames there may be in all.
-#[derive(Drop)]
+#[derive(Clone, Copy)]
 pub(crate) struct Ctx {
     pub level: usize,
     pub addr: u64,
@@ -25,7 +25,7 @@ pub(crate) struct Ctx {
 }
 
 // Ranges that were judged: the place after them, the start of the first, and whether one of them contains the address.
-#[derive(Drop)]
+#[derive(Clone, Copy)]
 enum Span {
     At(usize, u64, bool),
     Bad(Fault),
@@ -33,7 +33,7 @@ enum Span {
 
 // A node without a fault: the place after its head, where its children's offsets count from, whether it contains the
 // address, its children byte, name, call file and call line.
-#[derive(Drop)]
+#[derive(Clone, Copy)]
 pub(crate) struct Judged {
     pub next: usize,
     pub base: u64,
@@ -45,7 +45,7 @@ pub(crate) struct Judged {
 }
 
 // End: a range count of 0 ends the list, and the place after it.
-#[derive(Drop)]
+#[derive(Clone, Copy)]
 pub(crate) enum Seen {
     End(usize),
     Bad(Fault),

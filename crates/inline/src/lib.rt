@@ -3,6 +3,8 @@
 //   judge     a head judged at an address
 //   skipping  nodes passed over
 //   walk      the judging walk and its frames
+#![tactic(auto)]
+
 mod head;
 mod judge;
 mod skipping;
@@ -18,7 +20,7 @@ use walk::{FRAME_WIDTH, Walk, node};
 
 // What reading a block gives. Number 0: its frames, and how many there are. Any other number is a refusal, and count
 // is 0.
-#[derive(Drop)]
+#[derive(Clone, Copy)]
 pub struct Listed {
     pub number: u8,
     pub count: usize,

@@ -4,7 +4,7 @@ ghost use Rattle.inline.specs.Skip.{Skipped, SkippedAll};
 use super::head::{Fault, Head, head_at};
 
 // One node: the list's end instead of it, or the place past it and all below it.
-#[derive(Drop)]
+#[derive(Clone, Copy)]
 pub(crate) enum Step {
     End(usize),
     Past(usize),
@@ -12,7 +12,7 @@ pub(crate) enum Step {
 }
 
 // A whole list: the place after its end.
-#[derive(Drop)]
+#[derive(Clone, Copy)]
 pub(crate) enum Passed {
     At(usize),
     Bad(Fault),

@@ -11,7 +11,7 @@ use super::skipping::{Passed, skip_all};
 pub(crate) const FRAME_WIDTH: usize = 3;
 
 // How many frames there are after one more.
-#[derive(Drop)]
+#[derive(Clone, Copy)]
 enum Held {
     Full,
     Now(usize),
@@ -19,7 +19,7 @@ enum Held {
 
 // What reading judged nodes comes to: the list's end, or past a node and all below it, each with the place after it and
 // how many frames there are.
-#[derive(Drop)]
+#[derive(Clone, Copy)]
 pub(crate) enum Walk {
     End(usize, usize),
     Past(usize, usize),

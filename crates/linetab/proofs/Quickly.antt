@@ -1,6 +1,6 @@
 -- The quick form of the run: what its steps say of the run follows from the opcodes of `step_of`.
 -- Assumes nothing.
-use Rattle.std.proofs.Common.{◌≡◌, ℕ, ◌+◌, ◌-◌, ◌*◌, ◌/◌, ◌%◌, ◌^◌, ◌<◌, ◌≤◌, Bool, ltb, List, length, get_or, ℤ, pos, negsuc, ◌+ℤ◌, sym, refl, ap, ◌∙◌, subst, arith, le-ltb, lt-ltb}
+use Rattle.std.proofs.Common.{◌≡◌, ℕ, ◌+◌, ◌-◌, ◌*◌, ◌/◌, ◌%◌, ◌^◌, ◌<◌, ◌≤◌, Bool, List, length, get_or, ℤ, pos, negsuc, ◌+ℤ◌, sym, refl, ap, ◌∙◌, subst, arith, le-ltb, lt-ltb}
 use lib.Signed.{mag}
 use Rattle.reads.specs.Pick.{pick}
 use Rattle.int64.specs.Wrap.{number_of, bits_of, modZ, wrap}
@@ -16,13 +16,13 @@ use Rattle.linetab.specs.declared.LineTableRow.{LineTableRow}
 use Rattle.linetab.specs.declared.LineState.{LineState}
 use Rattle.linetab.specs.declared.RowFound.{RowFound}
 use Rattle.linetab.specs.declared.RowFound.TheVariants.{Row, Nothing}
-use Rattle.linetab.specs.declared.RunResult.TheVariants.{Ok, NewRow}
+use Rattle.linetab.specs.declared.RunResult.TheVariants.{NewRow}
 use Rattle.linetab.specs.declared.quick.Plan.{Plan}
 use Rattle.linetab.specs.declared.quick.Lead.{Lead}
 use Rattle.linetab.specs.declared.quick.Lead.TheVariants.{Made, Unsure}
 use Rattle.linetab.specs.declared.quick.Change.{Change}
 use Rattle.linetab.specs.declared.quick.Change.TheVariants.{To}
-use Rattle.linetab.specs.Machine.{state, setFile, advancePc, advanceLine, range_of, moved, specialOf, step_of}
+use Rattle.linetab.specs.Machine.{state, setFile, advancePc, range_of, moved, specialOf, step_of}
 use Rattle.linetab.specs.Rows.{rowFrom, rowFor}
 use Rattle.linetab.specs.Quick.{Suits, rowBefore, Keeps, FileTo, LineTo, Leads}
 use Rattle.linetab.proofs.Factor.{product_small, quotient, quotient-back}

@@ -3,6 +3,8 @@
 //   header   the numbers of a header behind the first one
 //   opcode   what each opcode does to a row
 //   quick    the row of an address at the usual ranges
+#![tactic(auto)]
+
 mod header;
 mod opcode;
 mod quick;
@@ -33,7 +35,7 @@ const ADVANCE_LINE: u8 = 3;
 const FIRST_SPECIAL: u8 = 4;
 
 // The least and the greatest line change of a special opcode, and the line at the symbol's address.
-#[derive(Drop)]
+#[derive(Clone, Copy)]
 pub struct LineTableHeader {
     pub min_delta: i64,
     pub max_delta: i64,
@@ -41,7 +43,7 @@ pub struct LineTableHeader {
 }
 
 // A row of the table: from this address on the code is of this file and line.
-#[derive(Drop)]
+#[derive(Clone, Copy)]
 pub struct LineTableRow {
     pub addr: Address,
     pub file_idx: FileIndex,
@@ -50,7 +52,7 @@ pub struct LineTableRow {
 
 // The machine between two opcodes: its row so far, and the place of the next opcode. A caller may keep it and go on
 // from it later.
-#[derive(Drop)]
+#[derive(Clone, Copy)]
 pub struct LineState {
     pub row: LineTableRow,
     pub at: usize,
@@ -58,7 +60,7 @@ pub struct LineState {
 
 // The header and the place after it. Short: a number's bytes end before it does. Wide: a number is too wide. The first
 // number that doesn't read decides.
-#[derive(Drop)]
+#[derive(Clone, Copy)]
 pub enum HeaderRead {
     Is {
         header: LineTableHeader,
@@ -70,7 +72,7 @@ pub enum HeaderRead {
 
 // What one opcode did. Ok: no row. NewRow: the state's row is one of the table. End: opcode 0, with the place after it.
 // Stopped: the range of a special opcode is 0, or an operand doesn't read. UsedUp: there is no byte at the place.
-#[derive(Drop)]
+#[derive(Clone, Copy)]
 pub enum RunResult {
     Ok(LineState),
     NewRow(LineState),
@@ -80,14 +82,14 @@ pub enum RunResult {
 }
 
 // The row of an address in a program, or none.
-#[derive(Drop)]
+#[derive(Clone, Copy)]
 pub enum RowFound {
     Row(LineTableRow),
     Nothing,
 }
 
 // The row of an address in a whole table, none, or why the header doesn't read.
-#[derive(Drop)]
+#[derive(Clone, Copy)]
 pub enum LineRead {
     Row(LineTableRow),
     Nothing,

@@ -17,7 +17,7 @@ use leb128::{Signed, Unsigned};
 use types::{Address, FileIndex, LineNumber};
 
 // What special opcodes go by in one program: the range, the factor that divides a byte by it, and min modulo 2^32.
-#[derive(Drop)]
+#[derive(Clone, Copy)]
 pub(crate) struct Plan {
     pub range: u64,
     pub factor: u64,
@@ -25,14 +25,14 @@ pub(crate) struct Plan {
 }
 
 // The file or the line, and the place after what changed it. Unread: an operand that doesn't read.
-#[derive(Drop)]
+#[derive(Clone, Copy)]
 enum Change {
     To { value: u32, next: usize },
     Unread,
 }
 
 // The next row, and the place after it. Unsure: nothing is said.
-#[derive(Drop)]
+#[derive(Clone, Copy)]
 enum Lead {
     Made {
         addr: u64,

@@ -6,7 +6,7 @@ ghost use Rattle.parser.specs.Numbers.{num_at, pair_at};
 use reads::{Read8, Read16, Read32, Read64};
 
 // Two numbers of four bytes.
-#[derive(Drop)]
+#[derive(Clone, Copy)]
 pub(crate) enum Pair {
     Is { first: u32, second: u32 },
     Unread,

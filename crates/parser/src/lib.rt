@@ -1,6 +1,8 @@
 // The tables of a GSYM file: its header, the search for the entry of an address, what an entry says, and the items of
 // its address data list. Nothing is copied: every table is answered and taken as a place in the file. Only opening
 // makes refusals; everywhere else the caller gives a thing that doesn't read its number.
+#![tactic(auto)]
+
 mod entries;
 mod fixed;
 mod items;
@@ -15,7 +17,7 @@ use strtab::StrTable;
 use types::{Address, StrOffset};
 
 // The header's numbers, and where each table stands; places are counted from the file's start, in bytes.
-#[derive(Drop)]
+#[derive(Clone, Copy)]
 pub struct Tables {
     // bytes per entry of the address table
     pub offset_size: u8,
@@ -30,40 +32,40 @@ pub struct Tables {
 }
 
 // A file's tables, or the refusal number 2, 3 or 4.
-#[derive(Drop)]
+#[derive(Clone, Copy)]
 pub enum Opened {
     Is(Tables),
     Refused(u8),
 }
 
 // The index of an entry of the address table.
-#[derive(Drop)]
+#[derive(Clone, Copy)]
 pub enum Found {
     At(usize),
     Unknown,
 }
 
 // What an entry says of its symbol, and the place of its first item.
-#[derive(Drop)]
+#[derive(Clone, Copy)]
 pub struct AddrInfo {
     pub size: u32,
     pub name: StrOffset,
     pub items: usize,
 }
 
-#[derive(Drop)]
+#[derive(Clone, Copy)]
 pub enum InfoRead {
     Is(AddrInfo),
     Unread,
 }
 
-#[derive(Drop)]
+#[derive(Clone, Copy)]
 pub struct FileInfo {
     pub directory: StrOffset,
     pub filename: StrOffset,
 }
 
-#[derive(Drop)]
+#[derive(Clone, Copy)]
 pub enum FileRead {
     Is(FileInfo),
     Unread,
@@ -71,7 +73,7 @@ pub enum FileRead {
 
 // An item of the address data list: its type, the place and the length of its bytes, and the place of the next item.
 // Closed: type 0 ends the list. Torn: an item that doesn't fit ends it; to a lookup that is the same.
-#[derive(Drop)]
+#[derive(Clone, Copy)]
 pub enum Item {
     Is {
         kind: u32,

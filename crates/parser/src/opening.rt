@@ -11,7 +11,7 @@ use strtab::StrTable;
 use types::Address;
 
 // The numbers of the header that are kept; the string table's place is its offset from the file's start.
-#[derive(Drop)]
+#[derive(Clone, Copy)]
 pub(crate) struct Header {
     pub offset_size: u8,
     pub base: Address,

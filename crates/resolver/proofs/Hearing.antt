@@ -1,6 +1,6 @@
 -- The items of an entry after a row and frames known so far: each way that `code_in` goes on or out, on plain values.
 -- Assumes nothing.
-use Prim.Native.Nat.{ℕ, ◌-◌, ◌<◌, ◌≤◌}
+use Prim.Native.Nat.{ℕ, ◌<◌, ◌≤◌}
 use mathlib.Core.Bool.{Bool, true, false}
 use mathlib.Core.List.{List, [], ◌∷◌}
 use mathlib.Core.Path.{◌≡◌, refl, subst, ◌∙◌}

@@ -3,7 +3,7 @@
 use Prim.Native.Nat.{ℕ, ◌≤◌}
 use mathlib.Core.Bool.{Bool, true, false}
 use mathlib.Core.List.{List, [], ◌∷◌}
-use mathlib.Core.Logic.{◌⊎◌, inl, inr, ⊎_elim}
+use mathlib.Core.Logic.{◌⊎◌, inl, inr}
 use mathlib.Core.Path.{◌≡◌, refl, sym, ap, subst}
 use lib.Dec.{eqb}
 use Rattle.reads.specs.Pick.{pick}
@@ -15,7 +15,7 @@ use Rattle.linetab.specs.declared.RowFound.TheVariants as found
 use Rattle.linetab.specs.declared.LineRead.{LineRead}
 use Rattle.linetab.specs.declared.LineRead.TheVariants as line
 use Rattle.linetab.specs.Rows.{lineRow}
-use Rattle.inline.specs.Block.{Block, listed, refused, block_of}
+use Rattle.inline.specs.Block.{Block, listed, refused}
 use Rattle.inline.proofs.MoreRoom.{block_more}
 use Rattle.parser.specs.declared.Tables.{Tables}
 use Rattle.parser.specs.declared.Opened.{Opened}
@@ -27,19 +27,9 @@ use Rattle.parser.specs.Search.{findOf}
 use Rattle.parser.specs.Entries.{symbol_at, coveredBy}
 use Rattle.resolver.specs.Data.{Piece, Data, DataRead, is, unread, data_of}
 use Rattle.resolver.specs.Book.{Book, bookOf, readsName}
-use Rattle.resolver.specs.Heard.{
-  ask,
-  Heard,
-  known,
-  fault,
-  afterLine,
-  hearRow,
-  after_block,
-  hearFrames,
-  hear,
-}
-use Rattle.resolver.specs.Says.{Said, refuses, afterHeard, sayMore, sayOf}
-use Rattle.resolver.specs.Spell.{Looked, refusing, spell}
+use Rattle.resolver.specs.Heard.{ask, Heard, fault, afterLine, hearRow, after_block, hearFrames, hear}
+use Rattle.resolver.specs.Says.{refuses, afterHeard, sayMore, sayOf}
+use Rattle.resolver.specs.Spell.{refusing, spell}
 use Rattle.resolver.specs.Lookup.{answer_of, answerAt, afterFound, afterOpened, lookupOf}
 
 -- a refusal of its own, or the same

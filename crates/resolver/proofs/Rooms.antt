@@ -133,12 +133,12 @@ module _ (file : List ℕ) (addr : Address) (o : Options) (room : ℕ) where
           ((lookupOf file addr o room).answer.count ≡ 0) ⊎ ((lookupOf file addr o room).answer.count + 1 ≤ room)
       go (refused n e) = inl (ap (λ (l : Looked). l.answer.count) e)
       go (said L size name p cs k e) =
-          let S = (say-saying _ _ L.data_of addr o room size name p cs k).1 in
+          let S = (say-saying _ _ L.data-of addr o room size name p cs k).1 in
           let c = count-calls L size name p cs e in
           ⊎_elim
           (λ (z : length cs ≡ 0). inl (c ∙ z))
           (λ (l : length cs + 1 ≤ room). inr (omega arith))
-          (saying-room _ _ L.data_of addr o room name p cs S)
+          (saying-room _ _ L.data-of addr o room name p cs S)
 
   pub no-records :
       (o.code_info ≡ false) ⊎ (o.inlining ≡ false) →
@@ -149,11 +149,11 @@ module _ (file : List ℕ) (addr : Address) (o : Options) (room : ℕ) where
           ((lookupOf file addr o room).frames ≡ []) × ((lookupOf file addr o room).answer.count ≡ 0)
       go (refused n e) = (ap (λ (l : Looked). l.frames) e, ap (λ (l : Looked). l.answer.count) e)
       go (said L size name p cs k e) =
-          let S = (say-saying _ _ L.data_of addr o room size name p cs k).1 in
+          let S = (say-saying _ _ L.data-of addr o room size name p cs k).1 in
           let w : cs ≡ [] =
           ⊎_elim
-          (λ (c : o.code_info ≡ false). saying-plain _ _ L.data_of addr o room name p cs c S)
-          (λ (c : o.inlining ≡ false). saying-off _ _ L.data_of addr o room name p cs c S)
+          (λ (c : o.code_info ≡ false). saying-plain _ _ L.data-of addr o room name p cs c S)
+          (λ (c : o.inlining ≡ false). saying-off _ _ L.data-of addr o room name p cs c S)
           h in (
             frames-calls L size name p cs e ∙ ap (map (spellFrame _ _)) w,
             count-calls L size name p cs e ∙ ap length w,

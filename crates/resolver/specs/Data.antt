@@ -5,7 +5,7 @@
 --   items                each a type, a length and that many bytes, up to type 0 or to one that doesn't fit
 --
 -- Assumes nothing.
-use Rattle.std.specs.Prelude.{ℕ, zero, suc, ◌+◌, ◌-◌, Bool, true, false, List, [], ◌∷◌, length, take, drop}
+use Rattle.std.specs.Prelude.{ℕ, zero, suc, ◌-◌, Bool, true, false, List, [], ◌∷◌, length, take, drop}
 use Rattle.parser.specs.declared.Tables.{Tables}
 use Rattle.parser.specs.declared.InfoRead.{InfoRead}
 use Rattle.parser.specs.declared.InfoRead.TheVariants as info

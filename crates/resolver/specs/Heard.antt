@@ -1,7 +1,7 @@
 -- What the items of an entry say at an address: a row and frames, or the first fault in list order (document 01,
 -- "Address data list"). What reads a row never looks at frames, and the other way round.
 -- Assumes nothing.
-use Rattle.std.specs.Prelude.{ℕ, Bool, true, false, List, [], ◌∷◌, eqb}
+use Rattle.std.specs.Prelude.{ℕ, Bool, List, [], ◌∷◌, eqb}
 use Rattle.reads.specs.Pick.{pick}
 use Rattle.types.specs.declared.Address.{Address}
 use Rattle.types.specs.declared.InlineFrame.{InlineFrame}

@@ -6,8 +6,6 @@ use Rattle.reads.specs.Pick.{pick}
 use Rattle.types.specs.declared.Address.{Address}
 use Rattle.types.specs.declared.Options.{Options}
 use Rattle.types.specs.declared.InlineFrame.{InlineFrame}
-use Rattle.linetab.specs.declared.LineTableRow.{LineTableRow}
-use Rattle.linetab.specs.declared.RowFound.{RowFound}
 use Rattle.linetab.specs.declared.RowFound.TheVariants as found
 use Rattle.parser.specs.declared.FileRead.{FileRead}
 use Rattle.parser.specs.declared.FileRead.TheVariants as row

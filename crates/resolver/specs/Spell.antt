@@ -3,7 +3,6 @@
 -- Assumes nothing.
 use Rattle.std.specs.Prelude.{ℕ, ◌+◌, Bool, true, false, List, [], map, length, take, drop}
 use Rattle.types.specs.declared.Address.{Address}
-use Rattle.types.specs.declared.LineNumber.{LineNumber}
 use Rattle.types.specs.declared.Text.{Text}
 use Rattle.types.specs.declared.Answer.{Answer}
 use Rattle.types.specs.declared.Frame.{Frame}
@@ -12,7 +11,7 @@ use Rattle.strtab.specs.declared.Len.{Len}
 use Rattle.strtab.specs.declared.Len.TheVariants.{Spans, Nothing}
 use Rattle.strtab.specs.Strings.{textIn, part_of}
 use Rattle.resolver.specs.Book.{Book}
-use Rattle.resolver.specs.Says.{Site, Call, Position, at, absent, Said, says, refuses}
+use Rattle.resolver.specs.Says.{Call, Position, at, absent, Said, says, refuses}
 
 -- an answer and its records
 pub record Looked : Type 0 where

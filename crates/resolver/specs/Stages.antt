@@ -46,7 +46,7 @@ use Rattle.resolver.specs.Data.{Piece, itemsAt}
 use Rattle.resolver.specs.Book.{Book, bookOf, readsName}
 use Rattle.resolver.specs.Heard.{ask, Heard, known, fault, hear}
 use Rattle.resolver.specs.Says.{Site, SiteRead, is, no, siteOf}
-use Rattle.resolver.specs.Spell.{Looked, refusing, spellText}
+use Rattle.resolver.specs.Spell.{spellText}
 
 -- ---- landing
 

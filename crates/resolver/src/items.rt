@@ -14,14 +14,14 @@ use types::Address;
 const INLINE_INFO: u32 = 2;
 
 // The row known after a line block, or that its header doesn't read.
-#[derive(Drop)]
+#[derive(Clone, Copy)]
 enum LineHeard {
     Is(RowFound),
     Unread,
 }
 
 // What the items say: the row if there is one, and how many frames there are; or a refusal's number.
-#[derive(Drop)]
+#[derive(Clone, Copy)]
 pub(crate) enum CodeRead {
     Known { row: RowFound, count: usize },
     Refused(u8),

@@ -9,14 +9,14 @@ use strtab::TextRead;
 use types::Address;
 
 // What an entry says of its symbol, or the refusal 5, 1 or 6.
-#[derive(Drop)]
+#[derive(Clone, Copy)]
 enum EntryRead {
     Is(Entry),
     Refused(u8),
 }
 
 // The tables and the entry that an address lands on, or a refusal's number.
-#[derive(Drop)]
+#[derive(Clone, Copy)]
 pub(crate) enum Landing {
     On { tables: Tables, entry: Entry },
     Refused(u8),

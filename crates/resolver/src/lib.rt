@@ -5,6 +5,8 @@
 //   rows      the row of an entry, without inlining
 //   items     the row and the frames of an entry
 //   rising    the later frames, with positions moved up
+#![tactic(auto)]
+
 mod items;
 mod landing;
 mod rising;
@@ -28,7 +30,7 @@ use strtab::TextRead;
 use types::{Address, Answer, LineNumber, Options, StrOffset, Text};
 
 // What an entry says of its symbol: address, size, name, and the place of its first item.
-#[derive(Drop)]
+#[derive(Clone, Copy)]
 pub(crate) struct Entry {
     pub symbol: Address,
     pub size: u32,
@@ -37,7 +39,7 @@ pub(crate) struct Entry {
 }
 
 // A source position.
-#[derive(Drop)]
+#[derive(Clone, Copy)]
 pub(crate) struct Place {
     pub dir: Text,
     pub file: Text,

@@ -13,7 +13,7 @@ use types::Text;
 pub(crate) const RECORD_WIDTH: usize = 7;
 
 // Whether all later frames were written, or the refusal 6, 7 or 8.
-#[derive(Drop)]
+#[derive(Clone, Copy)]
 pub(crate) enum Risen {
     All,
     Refused(u8),

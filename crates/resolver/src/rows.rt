@@ -12,7 +12,7 @@ use types::Address;
 pub(crate) const LINE_TABLE: u32 = 1;
 
 // The row of an entry, none, or that a line block's header doesn't read.
-#[derive(Drop)]
+#[derive(Clone, Copy)]
 pub(crate) enum RowRead {
     Row(LineTableRow),
     Nothing,

@@ -11,14 +11,14 @@ use strtab::TextRead;
 use types::{FileIndex, Frame, LineNumber, StrOffset};
 
 // A position, or the refusal 7 or 8.
-#[derive(Drop)]
+#[derive(Clone, Copy)]
 pub(crate) enum PlaceRead {
     Is(Place),
     Refused(u8),
 }
 
 // A frame's name and the position of its call, or the refusal 6, 7 or 8.
-#[derive(Drop)]
+#[derive(Clone, Copy)]
 pub(crate) enum CallRead {
     Is(Frame),
     Refused(u8),

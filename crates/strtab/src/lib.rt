@@ -1,5 +1,7 @@
 // The strings of a GSYM file's string table, and the part of the file that holds one. Which offsets are asked for, and
 // the number of a refusal, are left to the callers.
+#![tactic(auto)]
+
 mod lengths;
 mod scan;
 mod utf8;
@@ -14,21 +16,21 @@ use utf8::char_len;
 pub use utf8::is_utf8;
 
 // The part of the file that is the string table: place counted from the file's start, and size, both in bytes.
-#[derive(Drop)]
+#[derive(Clone, Copy)]
 pub struct StrTable {
     pub place: usize,
     pub size: usize,
 }
 
 // A string that was asked for.
-#[derive(Drop)]
+#[derive(Clone, Copy)]
 pub enum TextRead {
     Is(Text),
     Unread,
 }
 
 // How long a string of the table is, or that there is none.
-#[derive(Drop)]
+#[derive(Clone, Copy)]
 pub enum Len {
     Spans(usize),
     Nothing,

@@ -1,3 +1,0 @@
-pub mod Branch
-pub mod Copied
-pub mod Pour

@@ -1,0 +1,14 @@
+-- `linetab::quick::special_row` meets its contract: a byte times the factor, shifted, is the quotient.
+-- Assumes nothing.
+use Rattle.std.proofs.Common.{◌-◌, get_or, refl, arith}
+use Rattle.linetab.proofs.Quickly.{over-is, special-made}
+use Rattle.linetab.proofs.quick.special_row.Goals as goal
+
+pub overflow_sub-over : goal.overflow_sub-over
+overflow_sub-over c = (over-is _ _ c.requires.2 (get_or c.args.ops.now c.args.at 0 - 4) (omega arith)).0
+
+pub returns : goal.returns
+returns c =
+    special-made _ _ c.requires.2 _ c.args.at c.args.addr _ c.args.line _ _ c.requires.0 c.requires.1 (omega arith)
+    c.wrapping_add_u64-to.ensures.value
+    refl

@@ -1,0 +1,15 @@
+-- `parser::fixed::num32` meets its contract: the number's own bytes read as the number.
+-- Assumes nothing.
+use Rattle.std.proofs.Common.{sym, ◌∙◌}
+use Rattle.parser.proofs.Fields.{is32, not32}
+use Rattle.parser.proofs.fixed.num32.Goals as goal
+
+pub returns-in-Value : goal.returns-in-Value
+returns-in-Value c =
+    is32 _ _ c.requires _
+    (sym c.in-Value.is ∙ c.u32_at.ensures)
+
+pub returns-in-Unread : goal.returns-in-Unread
+returns-in-Unread c =
+    not32 _ _ c.requires
+    (sym c.in-Unread.is ∙ c.u32_at.ensures)

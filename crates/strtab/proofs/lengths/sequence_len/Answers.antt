@@ -1,0 +1,22 @@
+-- `strtab::lengths::sequence_len` meets its contract: the rule is a test at each of 256 entries, which antt computes.
+-- Assumes nothing.
+use mathlib.Core.List.{List, ◌++◌}
+use mathlib.Core.Bool.{Bool}
+use Prim.Native.Nat.{ℕ}
+use lib.Dec.{eqb, eqb→eq}
+use lib.ListN.{get_or, replicate}
+use borrow.Author.Rules.{rules}
+use Rattle.strtab.specs.Utf8.{sequenceLen}
+use Rattle.strtab.proofs.Table.{at}
+use Rattle.strtab.proofs.lengths.sequence_len.Goals as goal
+
+-- the table, by its runs
+table : List ℕ
+table = replicate 128 1 ++ (replicate 66 0 ++ (replicate 30 2 ++ (replicate 16 3 ++ (replicate 5 4 ++ replicate 11 0))))
+
+right : ℕ → ℕ → Bool
+right b x = eqb x (sequenceLen b)
+
+pub returns : goal.returns
+unfolding table right sequenceLen
+returns c = eqb→eq (get_or table c.args.b 0) (sequenceLen c.args.b) (at right table tt c.args.b (search rules))

@@ -1,0 +1,11 @@
+-- `strtab::scan::sixteen_in` meets its contract: both halves.
+-- Assumes nothing.
+use native.Mathlib.Omega.{arith}
+use Rattle.strtab.proofs.Counting.{counted-le, halves-counted}
+use Rattle.strtab.proofs.scan.sixteen_in.Goals as goal
+
+pub overflow_add-result : goal.overflow_add-result
+overflow_add-result c = omega (arith, counted-le _ 8 _ _ c.eight_in-low.ensures, counted-le _ 8 _ _ c.eight_in-high.ensures)
+
+pub returns : goal.returns
+returns c = halves-counted _ c.args.s.now c.args.at 8 _ _ c.eight_in-low.ensures c.eight_in-high.ensures
