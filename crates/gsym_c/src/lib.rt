@@ -1,6 +1,8 @@
 // What C hosts call; include/gsym.h is their manual. Each function hands its arguments on, lays the answer out as C has
 // it, and copies the records of an answer to the lent list: exactly those, and none of a refusal.
 //   copying   records from a list of numbers to a lent list
+#![tactic(auto)]
+
 mod copying;
 
 ghost use Rattle.std.specs.Prelude.{◌≡◌, ◌*◌, ◌≤◌, min, length};
