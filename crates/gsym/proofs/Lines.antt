@@ -17,20 +17,20 @@ use Rattle.linetab.specs.declared.RowFound.{RowFound}
 use Rattle.linetab.specs.declared.RowFound.TheVariants as found
 use Rattle.linetab.specs.declared.LineRead.{LineRead}
 use Rattle.linetab.specs.declared.LineRead.TheVariants as line
-use Rattle.linetab.specs.Rows.{lineRow}
+use Rattle.linetab.specs.Rows.{line_row}
 use Rattle.linetab.proofs.RowLines.{ReadSmall, line-row-small}
 use Rattle.inline.proofs.Numbers.{never}
 use Rattle.inline.proofs.CallLines.{Capped, BlockCapped, block-capped}
 use Rattle.parser.specs.declared.FileRead.{FileRead}
 use Rattle.parser.specs.declared.FileRead.TheVariants as file
 use Rattle.resolver.specs.Data.{Data, Piece}
-use Rattle.resolver.specs.Book.{Book, nthFile, readsText, readsName}
+use Rattle.resolver.specs.Book.{Book, nth_file, reads_text, reads_name}
 use Rattle.resolver.specs.Heard.{Ask, ask}
-use Rattle.resolver.specs.Says.{Site, SiteRead, is, no, siteIn, siteOf, Call, Calls, calls, withSite, calls_of}
+use Rattle.resolver.specs.Says.{Site, SiteRead, is, no, site_in, site_of, Call, Calls, calls, with_site, calls_of}
 use Rattle.resolver.specs.Says.{Position, raised}
-use Rattle.resolver.specs.Spell.{Looked, spellFrame, spell}
-use Rattle.resolver.specs.Lookup.{lookupOf}
-use Rattle.resolver.proofs.Heards.{RowKnown, row, unread, as_row, rowAfter, thenRow, rowsAlone, heard-parts}
+use Rattle.resolver.specs.Spell.{Looked, spell_frame, spell}
+use Rattle.resolver.specs.Lookup.{lookup_of}
+use Rattle.resolver.proofs.Heards.{RowKnown, row, unread, as_row, row_after, then_row, rows_alone, heard-parts}
 use Rattle.resolver.proofs.FirstBlocks.{heard-frames}
 use Rattle.resolver.proofs.Outcomes.{Saying, unasked, no_row, no_frames, with-frames, say-saying}
 use Rattle.resolver.proofs.Outcomes.{Outcome, refused, said, outcome}
@@ -62,23 +62,23 @@ read_known line.Nothing l = tt
 read_known line.Short l = tt
 read_known line.Wide l = tt
 
-after_small : (q : Ask) (p : Piece) (r : RowFound) → FoundSmall r → KnownSmall (rowAfter q p r)
-unfolding rowAfter KnownSmall
+after_small : (q : Ask) (p : Piece) (r : RowFound) → FoundSmall r → KnownSmall (row_after q p r)
+unfolding row_after KnownSmall
 after_small q p (found.Row r) l = l
 after_small q p found.Nothing l = go (eqb p.kind 1)
   where
-    go : (t : Bool) → KnownSmall (pick t (as_row (lineRow p.bytes q.symbol q.addr)) (row found.Nothing))
+    go : (t : Bool) → KnownSmall (pick t (as_row (line_row p.bytes q.symbol q.addr)) (row found.Nothing))
     go true =
-        read_known (lineRow p.bytes q.symbol q.addr) (line-row-small p.bytes q.symbol q.addr)
+        read_known (line_row p.bytes q.symbol q.addr) (line-row-small p.bytes q.symbol q.addr)
     go false = tt
 
-rows-small : (q : Ask) (ps : List Piece) (r : RowFound) → FoundSmall r → KnownSmall (rowsAlone q ps r)
-unfolding rowsAlone KnownSmall
+rows-small : (q : Ask) (ps : List Piece) (r : RowFound) → FoundSmall r → KnownSmall (rows_alone q ps r)
+unfolding rows_alone KnownSmall
 rows-small q [] r l = l
-rows-small q (p ∷ ps) r l = go (rows-small q ps) (rowAfter q p r) (after_small q p r l)
+rows-small q (p ∷ ps) r l = go (rows-small q ps) (row_after q p r) (after_small q p r l)
   where
-    go : ((r : RowFound) → FoundSmall r → KnownSmall (rowsAlone q ps r)) → (k : RowKnown) → KnownSmall k →
-        KnownSmall (thenRow (rowsAlone q ps) k)
+    go : ((r : RowFound) → FoundSmall r → KnownSmall (rows_alone q ps r)) → (k : RowKnown) → KnownSmall k →
+        KnownSmall (then_row (rows_alone q ps) k)
     go rest (row r) l = rest r l
     go rest unread l = tt
 
@@ -88,12 +88,12 @@ known_small r l = l
 
 -- ---- positions
 
-site-line : (b : Book) (index l : ℕ) (s : Site) → siteOf b index l ≡ is s → s.line ≡ l
-unfolding siteOf siteIn
-site-line b index l s e = go (nthFile b.files index) e
+site-line : (b : Book) (index l : ℕ) (s : Site) → site_of b index l ≡ is s → s.line ≡ l
+unfolding site_of site_in
+site-line b index l s e = go (nth_file b.files index) e
   where
-    go : (x : FileRead) → siteIn b l x ≡ is s → s.line ≡ l
-    go (file.Is r) e = by_tests (readsText b r.directory.0) (readsText b r.filename.0) e
+    go : (x : FileRead) → site_in b l x ≡ is s → s.line ≡ l
+    go (file.Is r) e = by_tests (reads_text b r.directory.0) (reads_text b r.filename.0) e
       where
         by_tests : (t u : Bool) →
             pick t (pick u (is (record { dir = r.directory.0; file = r.filename.0; line = l })) (no 8)) (no 8)
@@ -108,13 +108,13 @@ calls-lined : (b : Book) (fs : List InlineFrame) (cs : List Call) → Capped fs 
 unfolding calls_of Capped CallsLined
 calls-lined b [] cs l e = let q : [] ≡ cs = cc in subst CallsLined q tt
 calls-lined b (f ∷ fs) cs l e =
-    go (λ ds. calls-lined b fs ds l.1) (readsName b f.name.0)
-    (siteOf b f.call_file.0 f.call_line.0) refl
+    go (λ ds. calls-lined b fs ds l.1) (reads_name b f.name.0)
+    (site_of b f.call_file.0 f.call_line.0) refl
     (calls_of b fs) refl e
   where
     go : ((ds : List Call) → calls_of b fs ≡ calls ds → CallsLined ds) → (t : Bool) (k : SiteRead) →
-        siteOf b f.call_file.0 f.call_line.0 ≡ k → (r : Calls) → calls_of b fs ≡ r →
-        pick t (withSite f.name.0 r k) (no 6) ≡ calls cs → CallsLined cs
+        site_of b f.call_file.0 f.call_line.0 ≡ k → (r : Calls) → calls_of b fs ≡ r →
+        pick t (with_site f.name.0 r k) (no 6) ≡ calls cs → CallsLined cs
     go rest false k h r q e = never (let z : ◌≡◌ {A = ℕ} 0 1 = cc in z)
     go rest true (no m) h r q e = never (let z : ◌≡◌ {A = ℕ} 0 1 = cc in z)
     go rest true (is s) h (no m) q e = never (let z : ◌≡◌ {A = ℕ} 0 1 = cc in z)
@@ -129,7 +129,7 @@ raised-lined at [] l m = tt
 raised-lined at (c ∷ []) l m = (l, tt)
 raised-lined at (c ∷ d ∷ cs) l m = (m.1.0, raised-lined at (d ∷ cs) l m.1)
 
-spelt-lined : (b : Book) (place : ℕ) (cs : List Call) → CallsLined cs → Lined (map (spellFrame b place) cs)
+spelt-lined : (b : Book) (place : ℕ) (cs : List Call) → CallsLined cs → Lined (map (spell_frame b place) cs)
 unfolding CallsLined Lined
 spelt-lined b place [] l = tt
 spelt-lined b place (c ∷ cs) l = (l.0, spelt-lined b place cs l.1)
@@ -162,11 +162,11 @@ module _ (b : Book) (symbol : Address) (d : Data) (addr : Address) (o : Options)
 
 -- ---- a whole lookup
 
-pub lookup-lined : (file : List ℕ) (addr : Address) (o : Options) (room : ℕ) → Lined (lookupOf file addr o room).frames
+pub lookup-lined : (file : List ℕ) (addr : Address) (o : Options) (room : ℕ) → Lined (lookup_of file addr o room).frames
 unfolding spell Lined
 lookup-lined file addr o room = go (outcome file addr o room)
   where
-    go : Outcome file addr o room → Lined (lookupOf file addr o room).frames
+    go : Outcome file addr o room → Lined (lookup_of file addr o room).frames
     go (refused n e) = subst (λ (l : Looked). Lined l.frames) (sym e) tt
     go (said L size name p cs k e) =
         let S = (say-saying _ _ L.data-of addr o room size name p cs k).1 in

@@ -3,8 +3,8 @@
 use Rattle.std.proofs.Common.{◌≡◌, ℕ, ◌*◌, ◌≤◌, min, List, [], ◌∷◌, length, take, replicate, sym, ap, ◌∙◌, arith, length-take}
 use Rattle.std.proofs.lemmas.List.{length-replicate}
 use Rattle.types.specs.declared.InlineFrame.{InlineFrame}
-use Rattle.inline.specs.Store.{flat, framesIn}
-use Rattle.inline.specs.Block.{block_of, roomOf, framesOf, Lists}
+use Rattle.inline.specs.Store.{flat, frames_in}
+use Rattle.inline.specs.Block.{block_of, room_of, frames_of, Lists}
 use Rattle.inline.specs.declared.Listed.{Listed}
 use Rattle.inline.proofs.Stores.{frames-flat}
 use Rattle.inline.proofs.Answers.{count-within, count_room}
@@ -29,7 +29,7 @@ space_for n = take (3 * n) (replicate 192 0)
 
 module _ (bytes : List ℕ) (symbol addr len n : ℕ) (exit : List ℕ) (r : Listed) (m : n ≡ min len 64)
     (L : Lists bytes symbol addr (space_for n) exit r) where
-  room : roomOf (space_for n) ≡ min 64 len
+  room : room_of (space_for n) ≡ min 64 len
   room = omega (arith, length-take (3 * n) (replicate {A = ℕ} 192 0), length-replicate {A = ℕ} 192 0)
 
   -- the frames are in the store, and there is room for them in the list
@@ -39,7 +39,7 @@ module _ (bytes : List ℕ) (symbol addr len n : ℕ) (exit : List ℕ) (r : Lis
   pub in_list : r.count ≤ len
   in_list = omega (arith, count_room bytes symbol addr (space_for n) exit r L, room)
 
-  pub frames-read : framesIn r.count exit ≡ framesOf (block_of symbol addr (min 64 len) bytes)
+  pub frames-read : frames_in r.count exit ≡ frames_of (block_of symbol addr (min 64 len) bytes)
   frames-read =
       flat-same _ _ (sym (frames-flat r.count exit in_store) ∙ L.frames)
-      ∙ ap (λ (k : ℕ). framesOf (block_of symbol addr k bytes)) room
+      ∙ ap (λ (k : ℕ). frames_of (block_of symbol addr k bytes)) room

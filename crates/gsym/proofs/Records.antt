@@ -6,29 +6,29 @@ use Rattle.types.specs.declared.Address.{Address}
 use Rattle.types.specs.declared.Answer.{Answer}
 use Rattle.types.specs.declared.Frame.{Frame}
 use Rattle.types.specs.declared.Options.{Options}
-use Rattle.resolver.specs.Lookup.{lookupOf}
-use Rattle.resolver.specs.Rows.{numbersOf, flatFrames, recordsIn, Looks}
+use Rattle.resolver.specs.Lookup.{lookup_of}
+use Rattle.resolver.specs.Rows.{numbers_of, flat_frames, records_in, Looks}
 use Rattle.resolver.proofs.Rooms.{count-is, count_room}
-use Rattle.gsym.specs.Lists.{recordAt, recordsAt}
+use Rattle.gsym.specs.Lists.{record_at, records_at}
 use Rattle.gsym.proofs.Lines.{Lined, lookup-lined}
 
 -- ---- records by their numbers
 
-pub records-length : (n : ℕ) (xs : List ℕ) → length (recordsAt n xs) ≡ n
-unfolding recordsAt
+pub records-length : (n : ℕ) (xs : List ℕ) → length (records_at n xs) ≡ n
+unfolding records_at
 records-length zero xs = refl
 records-length (suc n) xs =
     let h = records-length n xs in
-    omega (arith, length-append (recordsAt n xs) (recordAt n xs ∷ []))
+    omega (arith, length-append (records_at n xs) (record_at n xs ∷ []))
 
 -- behind a record the next ones stand one further
 number-behind :
-    (f : Frame) (xs : List ℕ) (j k : ℕ) → j ≡ k + 7 → get_or (numbersOf f ++ xs) j 0 ≡ get_or xs k 0
+    (f : Frame) (xs : List ℕ) (j k : ℕ) → j ≡ k + 7 → get_or (numbers_of f ++ xs) j 0 ≡ get_or xs k 0
 number-behind f xs j k e =
     let seven : j ≡ suc (suc (suc (suc (suc (suc (suc k)))))) = omega arith in
     rw seven
 
-record-behind : (f : Frame) (xs : List ℕ) (i : ℕ) → recordAt (suc i) (numbersOf f ++ xs) ≡ recordAt i xs
+record-behind : (f : Frame) (xs : List ℕ) (i : ℕ) → record_at (suc i) (numbers_of f ++ xs) ≡ record_at i xs
 record-behind f xs i =
     rw (
       number-behind f xs (7 * suc i) (7 * i) (omega arith),
@@ -42,30 +42,30 @@ record-behind f xs i =
 
 records-behind :
     (f : Frame) (xs : List ℕ) (n : ℕ) →
-    recordsAt (suc n) (numbersOf f ++ xs) ≡ recordAt 0 (numbersOf f ++ xs) ∷ recordsAt n xs
-unfolding recordsAt
+    records_at (suc n) (numbers_of f ++ xs) ≡ record_at 0 (numbers_of f ++ xs) ∷ records_at n xs
+unfolding records_at
 records-behind f xs zero = refl
 records-behind f xs (suc n) =
-    ap (λ (t : List Frame). t ++ recordAt (suc n) (numbersOf f ++ xs) ∷ []) (records-behind f xs n)
-    ∙ ap (λ (g : Frame). recordAt 0 (numbersOf f ++ xs) ∷ (recordsAt n xs ++ g ∷ [])) (record-behind f xs n)
+    ap (λ (t : List Frame). t ++ record_at (suc n) (numbers_of f ++ xs) ∷ []) (records-behind f xs n)
+    ∙ ap (λ (g : Frame). record_at 0 (numbers_of f ++ xs) ∷ (records_at n xs ++ g ∷ [])) (record-behind f xs n)
 
 small : (n : ℕ) → n < 2 ^ 32 → n % 2 ^ 32 ≡ n
 small n h = omega arith
 
-records-flat : (fs : List Frame) → Lined fs → recordsAt (length fs) (flatFrames fs) ≡ fs
-unfolding recordsAt flatFrames Lined
+records-flat : (fs : List Frame) → Lined fs → records_at (length fs) (flat_frames fs) ≡ fs
+unfolding records_at flat_frames Lined
 records-flat [] l = refl
 records-flat (f ∷ fs) l =
-    records-behind f (flatFrames fs) (length fs)
+    records-behind f (flat_frames fs) (length fs)
     ∙ ap (λ (n : ℕ). record { name = f.name; dir = f.dir; file = f.file; line = record { 0 = n } }
-    ∷ recordsAt (length fs) (flatFrames fs))
+    ∷ records_at (length fs) (flat_frames fs))
     (small f.line.0 l.0)
     ∙ ap (λ (t : List Frame). f ∷ t) (records-flat fs l.1)
 
 -- records are told by the numbers before their end
 records-agree :
-    (n : ℕ) (xs ys : List ℕ) → ((i : ℕ) → i < 7 * n → get_or ys i 0 ≡ get_or xs i 0) → recordsAt n ys ≡ recordsAt n xs
-unfolding recordsAt
+    (n : ℕ) (xs ys : List ℕ) → ((i : ℕ) → i < 7 * n → get_or ys i 0 ≡ get_or xs i 0) → records_at n ys ≡ records_at n xs
+unfolding records_at
 records-agree zero xs ys h = refl
 records-agree (suc n) xs ys h =
     rw (
@@ -80,24 +80,24 @@ records-agree (suc n) xs ys h =
     )
 
 records-front :
-    (fs : List Frame) (xs : List ℕ) (n : ℕ) → Lined fs → n ≡ length fs → take (7 * n) xs ≡ flatFrames fs →
-    recordsAt n xs ≡ fs
+    (fs : List Frame) (xs : List ℕ) (n : ℕ) → Lined fs → n ≡ length fs → take (7 * n) xs ≡ flat_frames fs →
+    records_at n xs ≡ fs
 records-front fs xs n l c e =
     sym (records-agree n xs (take (7 * n) xs) (λ i h. get_or-take (7 * n) xs i 0 h))
-    ∙ ap (recordsAt n) e
-    ∙ ap (λ (k : ℕ). recordsAt k (flatFrames fs)) c
+    ∙ ap (records_at n) e
+    ∙ ap (λ (k : ℕ). records_at k (flat_frames fs)) c
     ∙ records-flat fs l
 
 -- ---- the answer
 
 -- records are no more than the room
 pub records-room :
-    (file : List ℕ) (addr : Address) (o : Options) (room : ℕ) → length (lookupOf file addr o room).frames ≤ room
+    (file : List ℕ) (addr : Address) (o : Options) (room : ℕ) → length (lookup_of file addr o room).frames ≤ room
 records-room file addr o room =
     let c = count-is file addr o room in
     ⊎_elim
-    (λ (z : (lookupOf file addr o room).answer.count ≡ 0). omega arith)
-    (λ (l : (lookupOf file addr o room).answer.count + 1 ≤ room). omega arith)
+    (λ (z : (lookup_of file addr o room).answer.count ≡ 0). omega arith)
+    (λ (l : (lookup_of file addr o room).answer.count + 1 ≤ room). omega arith)
     (count_room file addr o room)
 
 -- space for the numbers of so many records, as a lookup makes it
@@ -106,14 +106,14 @@ space_for n = take (7 * n) (replicate 448 0)
 
 module _ (file : List ℕ) (addr : Address) (o : Options) (len n : ℕ) (exit : List ℕ) (r : Answer) (m : n ≡ min len 64)
     (L : Looks file addr o (space_for n) exit r) where
-  room : recordsIn (space_for n) ≡ min 64 len
+  room : records_in (space_for n) ≡ min 64 len
   room = omega (arith, length-take (7 * n) (replicate {A = ℕ} 448 0), length-replicate {A = ℕ} 448 0)
 
-  given : r.count ≡ length (lookupOf file addr o (recordsIn (space_for n))).frames
-  given = ap (λ (a : Answer). a.count) L.says ∙ count-is file addr o (recordsIn (space_for n))
+  given : r.count ≡ length (lookup_of file addr o (records_in (space_for n))).frames
+  given = ap (λ (a : Answer). a.count) L.says ∙ count-is file addr o (records_in (space_for n))
 
-  few : r.count ≤ recordsIn (space_for n)
-  few = omega (arith, given, records-room file addr o (recordsIn (space_for n)))
+  few : r.count ≤ records_in (space_for n)
+  few = omega (arith, given, records-room file addr o (records_in (space_for n)))
 
   -- the records are in the store, and there is room for them in the list
   pub in_store : 7 * r.count ≤ length exit
@@ -122,7 +122,7 @@ module _ (file : List ℕ) (addr : Address) (o : Options) (len n : ℕ) (exit : 
   pub in_list : r.count ≤ len
   in_list = omega (arith, few, room)
 
-  pub records-read : recordsAt r.count exit ≡ (lookupOf file addr o (min 64 len)).frames
+  pub records-read : records_at r.count exit ≡ (lookup_of file addr o (min 64 len)).frames
   records-read =
-      records-front _ exit r.count (lookup-lined file addr o (recordsIn (space_for n))) given L.records
-      ∙ ap (λ (k : ℕ). (lookupOf file addr o k).frames) room
+      records-front _ exit r.count (lookup-lined file addr o (records_in (space_for n))) given L.records
+      ∙ ap (λ (k : ℕ). (lookup_of file addr o k).frames) room

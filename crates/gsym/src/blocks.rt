@@ -1,6 +1,6 @@
 // The frames of a single block, from a store of numbers to the front of a lent list.
 ghost use Rattle.std.specs.Prelude.{◌≡◌, ◌*◌, ◌+◌, ◌≤◌, length};
-ghost use Rattle.inline.specs.Store.{frame_at, framesIn};
+ghost use Rattle.inline.specs.Store.{frame_at, frames_in};
 ghost use Rattle.gsym.specs.Lists.{over};
 
 use types::{FileIndex, InlineFrame, LineNumber, StrOffset};
@@ -25,7 +25,7 @@ fn frame_from(store: &[u32], i: usize) -> InlineFrame
 pub(crate) fn copy_frames(store: &[u32], count: usize, frames: &mut [InlineFrame])
     requires in_store { 3 * count ≤ length store.now }
     requires in_list { count ≤ length frames.old }
-    ensures { frames.new ≡ over (framesIn count store.now) frames.old }
+    ensures { frames.new ≡ over (frames_in count store.now) frames.old }
 {
     for i in 0..count {
         frames[i] = frame_from(store, i);

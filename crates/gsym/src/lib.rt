@@ -9,9 +9,9 @@ mod lookups;
 
 ghost use Rattle.std.specs.Prelude.{◌≡◌};
 ghost use Rattle.inline.specs.Block.{block_of, listing};
-ghost use Rattle.resolver.specs.Lookup.{lookupOf};
+ghost use Rattle.resolver.specs.Lookup.{lookup_of};
 ghost use Rattle.strtab.specs.Strings.{part_of};
-ghost use Rattle.gsym.specs.Lists.{room_for, writtenOver, blockOver};
+ghost use Rattle.gsym.specs.Lists.{room_for, written_over, block_over};
 
 use blocks::{FRAME_WIDTH, copy_frames};
 use inline::Listed;
@@ -30,7 +30,7 @@ pub fn block_frames(
 ) -> Listed
     ensures answer { result ≡ listing (block_of symbol.0 addr.0 (room_for frames.old) block.now) }
     ensures list { frames.new
-        ≡ blockOver (block_of symbol.0 addr.0 (room_for frames.old) block.now) frames.old }
+        ≡ block_over (block_of symbol.0 addr.0 (room_for frames.old) block.now) frames.old }
 {
     let mut space = [0; FRAME_WIDTH * MAX_FRAMES];
     let store = &mut space[..FRAME_WIDTH * frames.len().min(MAX_FRAMES)];
@@ -41,9 +41,9 @@ pub fn block_frames(
 
 // `lookup` where both are asked for.
 fn lookup_inlined(file: &[u8], addr: Address, options: Options, frames: &mut [Frame]) -> Answer
-    ensures answer { result ≡ (lookupOf file.now addr options (room_for frames.old)).answer }
+    ensures answer { result ≡ (lookup_of file.now addr options (room_for frames.old)).answer }
     ensures list { frames.new
-        ≡ writtenOver (lookupOf file.now addr options (room_for frames.old)) frames.old }
+        ≡ written_over (lookup_of file.now addr options (room_for frames.old)) frames.old }
 {
     let mut space = [0; RECORD_WIDTH * MAX_FRAMES];
     let store = &mut space[..RECORD_WIDTH * frames.len().min(MAX_FRAMES)];
@@ -57,9 +57,9 @@ fn lookup_inlined(file: &[u8], addr: Address, options: Options, frames: &mut [Fr
 // block's first frame, though that becomes no record. Records past the count stay as they are, and a refusal, 1 to 14,
 // changes none. Without both options the list isn't touched, and nothing is kept for frames.
 pub fn lookup(file: &[u8], addr: Address, options: Options, frames: &mut [Frame]) -> Answer
-    ensures answer { result ≡ (lookupOf file.now addr options (room_for frames.old)).answer }
+    ensures answer { result ≡ (lookup_of file.now addr options (room_for frames.old)).answer }
     ensures list { frames.new
-        ≡ writtenOver (lookupOf file.now addr options (room_for frames.old)) frames.old }
+        ≡ written_over (lookup_of file.now addr options (room_for frames.old)) frames.old }
 {
     if options.code_info && options.inlining {
         lookup_inlined(file, addr, options, frames)
@@ -77,9 +77,9 @@ pub struct Gsym<'a> {
 impl<'a> Gsym<'a> {
     // `lookup` on the bytes that the file was opened on.
     pub fn lookup(&self, addr: Address, options: Options, frames: &mut [Frame]) -> Answer
-        ensures answer { result ≡ (lookupOf self.now.file.now addr options (room_for frames.old)).answer }
+        ensures answer { result ≡ (lookup_of self.now.file.now addr options (room_for frames.old)).answer }
         ensures list { frames.new
-            ≡ writtenOver (lookupOf self.now.file.now addr options (room_for frames.old)) frames.old }
+            ≡ written_over (lookup_of self.now.file.now addr options (room_for frames.old)) frames.old }
     {
         lookup(self.file, addr, options, frames)
     }
@@ -101,9 +101,9 @@ pub fn open(file: &[u8]) -> Gsym<'_>
 
 // `Gsym::lookup` as a function.
 pub fn lookup_in(g: Gsym<'_>, addr: Address, options: Options, frames: &mut [Frame]) -> Answer
-    ensures answer { result ≡ (lookupOf g.entry.file.now addr options (room_for frames.old)).answer }
+    ensures answer { result ≡ (lookup_of g.entry.file.now addr options (room_for frames.old)).answer }
     ensures list { frames.new
-        ≡ writtenOver (lookupOf g.entry.file.now addr options (room_for frames.old)) frames.old }
+        ≡ written_over (lookup_of g.entry.file.now addr options (room_for frames.old)) frames.old }
 {
     g.lookup(addr, options, frames)
 }

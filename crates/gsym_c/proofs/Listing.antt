@@ -8,10 +8,10 @@ use native.Mathlib.Omega.{arith}
 use Rattle.types.specs.declared.InlineFrame.{InlineFrame}
 use Rattle.inline.specs.declared.Listed.{Listed}
 use Rattle.inline.specs.Store.{flat}
-use Rattle.inline.specs.Block.{Block, block_of, listing, framesOf, roomOf, Lists}
+use Rattle.inline.specs.Block.{Block, block_of, listing, frames_of, room_of, Lists}
 use Rattle.inline.proofs.Answers.{count-is}
-use Rattle.gsym_c.specs.Copied.{rowsOver}
-use Rattle.gsym_c.specs.Laid.{row_of, laidListed, block_at, ListsBlock}
+use Rattle.gsym_c.specs.Copied.{rows_over}
+use Rattle.gsym_c.specs.Laid.{row_of, laid_listed, block_at, ListsBlock}
 use Rattle.gsym_c.proofs.Copies.{joined, rows_fit, rows_are}
 
 flat-joined : (fs : List InlineFrame) → flat fs ≡ joined row_of fs
@@ -36,7 +36,7 @@ module _
     block : Block
     block = block_at bytes symbol addr entry
 
-    same_block : block_of symbol addr (roomOf store) bytes ≡ block
+    same_block : block_of symbol addr (room_of store) bytes ≡ block
     unfolding block
     same_block =
         ap (λ (k : ℕ). block_of symbol addr k bytes) (same-room (length store) (length entry) room)
@@ -44,34 +44,34 @@ module _
     says : l ≡ listing block
     says = L.says ∙ ap listing same_block
 
-    counts : l.count ≡ length (framesOf block)
+    counts : l.count ≡ length (frames_of block)
     counts =
         count-is bytes symbol addr store after l L
-        ∙ ap (λ (b : Block). length (framesOf b)) same_block
+        ∙ ap (λ (b : Block). length (frames_of b)) same_block
 
-    numbers : take (3 * length (framesOf block)) after ≡ joined row_of (framesOf block)
+    numbers : take (3 * length (frames_of block)) after ≡ joined row_of (frames_of block)
     numbers =
         ap (λ (k : ℕ). take (3 * k) after) (sym counts)
         ∙ L.frames
-        ∙ ap (λ (b : Block). flat (framesOf b)) same_block
-        ∙ flat-joined (framesOf block)
+        ∙ ap (λ (b : Block). flat (frames_of b)) same_block
+        ∙ flat-joined (frames_of block)
 
     -- the frames are there, and the lent list has room for them
     pub block-fits : (3 * l.count ≤ length after) × (l.count ≤ length entry)
     block-fits =
-        let f = rows_fit row_of 3 (λ _. refl) (framesOf block) after numbers in
+        let f = rows_fit row_of 3 (λ _. refl) (frames_of block) after numbers in
         (omega (arith, counts), omega (arith, counts, L.kept, room))
 
     -- their copy is what is promised
     pub block-lent :
-        (exit : List (List ℕ)) → exit ≡ rowsOver 3 l.count after entry →
-        ListsBlock bytes symbol addr entry exit (laidListed l)
+        (exit : List (List ℕ)) → exit ≡ rows_over 3 l.count after entry →
+        ListsBlock bytes symbol addr entry exit (laid_listed l)
     unfolding block
     block-lent exit e = record {
-      says = ap laidListed says;
+      says = ap laid_listed says;
       lent =
           e
-          ∙ ap (λ (k : ℕ). rowsOver 3 k after entry) counts
-          ∙ ap (λ (rows : List (List ℕ)). rows ++ drop (length (framesOf block)) entry)
-          (rows_are row_of 3 (λ _. refl) (framesOf block) after numbers);
+          ∙ ap (λ (k : ℕ). rows_over 3 k after entry) counts
+          ∙ ap (λ (rows : List (List ℕ)). rows ++ drop (length (frames_of block)) entry)
+          (rows_are row_of 3 (λ _. refl) (frames_of block) after numbers);
     }

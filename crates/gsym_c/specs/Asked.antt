@@ -5,8 +5,8 @@ use Rattle.reads.specs.Pick.{pick}
 use Rattle.types.specs.declared.Address.{Address}
 use Rattle.types.specs.declared.Options.{Options}
 use Rattle.types.specs.declared.Answer.{Answer}
-use Rattle.resolver.specs.Lookup.{lookupOf}
-use Rattle.resolver.specs.Rows.{numbersOf}
+use Rattle.resolver.specs.Lookup.{lookup_of}
+use Rattle.resolver.specs.Rows.{numbers_of}
 use Rattle.gsym_c.specs.declared.GsymAnswer.{GsymAnswer}
 use Rattle.gsym_c.specs.Laid.{room_for, written}
 
@@ -15,12 +15,12 @@ abbrev pub address : ℕ → Address
 address a = record { 0 = a }
 
 -- bit 0 asks for code info, bit 1 for inlining; the others are ignored
-abbrev pub optionsOf : ℕ → Options
-optionsOf bits = record { code_info = eqb (bits % 2) 1; inlining = eqb (bits / 2 % 2) 1 }
+abbrev pub options_of : ℕ → Options
+options_of bits = record { code_info = eqb (bits % 2) 1; inlining = eqb (bits / 2 % 2) 1 }
 
 -- whether records are asked for: both
-abbrev pub asksFrames : Options → Bool
-asksFrames o = pick o.code_info o.inlining false
+abbrev pub asks_frames : Options → Bool
+asks_frames o = pick o.code_info o.inlining false
 
 abbrev pub flag : Bool → ℕ
 flag true = 1
@@ -47,8 +47,8 @@ laid a = record {
 pub record LooksWith
     (file : List ℕ) (addr : Address) (o : Options) (room : ℕ) (entry exit : List (List ℕ)) (r : GsymAnswer) :
     Type 0 where
-  pub says : r ≡ laid (lookupOf file addr o room).answer
-  pub lent : exit ≡ written numbersOf (lookupOf file addr o room).frames entry
+  pub says : r ≡ laid (lookup_of file addr o room).answer
+  pub lent : exit ≡ written numbers_of (lookup_of file addr o room).frames entry
 
 -- with the room of the lent list
 abbrev pub LooksUp : List ℕ → Address → Options → (entry exit : List (List ℕ)) → GsymAnswer → Type 0

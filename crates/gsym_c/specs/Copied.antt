@@ -12,5 +12,5 @@ abbrev pub row_in : (width : ℕ) → List ℕ → ℕ → List ℕ
 row_in width numbers i = take width (drop (width * i) numbers)
 
 -- the first n records over the front of a list; what is past them stays
-abbrev pub rowsOver : (width n : ℕ) → List ℕ → List (List ℕ) → List (List ℕ)
-rowsOver width n numbers list = rows_to (row_in width numbers) n ++ drop n list
+abbrev pub rows_over : (width n : ℕ) → List ℕ → List (List ℕ) → List (List ℕ)
+rows_over width n numbers list = rows_to (row_in width numbers) n ++ drop n list

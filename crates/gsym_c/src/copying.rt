@@ -1,6 +1,6 @@
 // Records from a list of numbers, where they stand one after another, to the front of a lent list.
 ghost use Rattle.std.specs.Prelude.{◌≡◌, ◌*◌, ◌+◌, ◌≤◌, length};
-ghost use Rattle.gsym_c.specs.Copied.{row_in, rowsOver};
+ghost use Rattle.gsym_c.specs.Copied.{row_in, rows_over};
 
 // A frame of a block takes three numbers.
 pub(crate) const FRAME_WIDTH: usize = 3;
@@ -23,7 +23,7 @@ fn frame_at(store: &[u32], i: usize) -> [u32; 3]
 // Copies the first n frames. The callers give as many, and room for them; what is past them stays.
 pub(crate) fn copy_frames(store: &[u32], n: usize, frames: &mut [[u32; 3]])
     requires { (3 * n ≤ length store.now) × (n ≤ length frames.old) }
-    ensures { frames.new ≡ rowsOver 3 n store.now frames.old }
+    ensures { frames.new ≡ rows_over 3 n store.now frames.old }
 {
     let mut i = 0;
     while i < n {
@@ -52,7 +52,7 @@ fn record_at(store: &[u64], i: usize) -> [u64; 7]
 // Copies the first n records. The callers give as many, and room for them; what is past them stays.
 pub(crate) fn copy_records(store: &[u64], n: usize, records: &mut [[u64; 7]])
     requires { (7 * n ≤ length store.now) × (n ≤ length records.old) }
-    ensures { records.new ≡ rowsOver 7 n store.now records.old }
+    ensures { records.new ≡ rows_over 7 n store.now records.old }
 {
     let mut i = 0;
     while i < n {

@@ -6,10 +6,10 @@
 mod copying;
 
 ghost use Rattle.std.specs.Prelude.{◌≡◌, ◌*◌, ◌≤◌, min, length};
-ghost use Rattle.resolver.specs.Stages.{allOptions};
-ghost use Rattle.resolver.specs.Rows.{recordsIn};
+ghost use Rattle.resolver.specs.Stages.{all_options};
+ghost use Rattle.resolver.specs.Rows.{records_in};
 ghost use Rattle.gsym_c.specs.Laid.{ListsBlock};
-ghost use Rattle.gsym_c.specs.Asked.{address, optionsOf, asksFrames, flag, laid, LooksWith, LooksUp};
+ghost use Rattle.gsym_c.specs.Asked.{address, options_of, asks_frames, flag, laid, LooksWith, LooksUp};
 
 use copying::{FRAME_WIDTH, RECORD_WIDTH, copy_frames, copy_records};
 use types::{Address, Answer, Options};
@@ -66,7 +66,7 @@ fn flag_of(on: bool) -> u32
 
 // What the bits ask for.
 fn asked_by(bits: u32) -> Options
-    ensures { result ≡ optionsOf bits }
+    ensures { result ≡ options_of bits }
 {
     Options {
         code_info: bits % 2 == 1,
@@ -76,7 +76,7 @@ fn asked_by(bits: u32) -> Options
 
 // Whether records are asked for.
 fn asks_frames(o: Options) -> bool
-    ensures { result ≡ asksFrames o }
+    ensures { result ≡ asks_frames o }
 {
     if o.code_info { o.inlining } else { false }
 }
@@ -109,8 +109,8 @@ fn lay_out(a: Answer) -> GsymAnswer
 
 // A lookup with position and inlined calls, by way of `store`, which has room for no more records than the lent list.
 fn lookup_by(file: &[u8], addr: Address, store: &mut [u64], records: &mut [[u64; 7]]) -> GsymAnswer
-    requires { recordsIn store.old ≤ length records.old }
-    ensures { LooksWith file.now addr allOptions (recordsIn store.old)
+    requires { records_in store.old ≤ length records.old }
+    ensures { LooksWith file.now addr all_options (records_in store.old)
         records.old records.new result }
 {
     let all = Options {
@@ -132,7 +132,7 @@ fn small_space() -> [u64; 112]
 
 // A lookup with position and inlined calls, with room for 16 frames at most.
 fn lookup_few(file: &[u8], addr: Address, records: &mut [[u64; 7]]) -> GsymAnswer
-    ensures { LooksWith file.now addr allOptions (min 16 (length records.old))
+    ensures { LooksWith file.now addr all_options (min 16 (length records.old))
         records.old records.new result }
 {
     let n = RECORD_WIDTH * room_in(records.len(), FEW_FRAMES);
@@ -150,7 +150,7 @@ fn large_space() -> [u64; 448]
 
 // A lookup with position and inlined calls, with room for as many frames as there may be.
 fn lookup_many(file: &[u8], addr: Address, records: &mut [[u64; 7]]) -> GsymAnswer
-    ensures { LooksUp file.now addr allOptions records.old records.new result }
+    ensures { LooksUp file.now addr all_options records.old records.new result }
 {
     let n = RECORD_WIDTH * room_in(records.len(), types::MAX_FRAMES);
     let mut space = large_space();
@@ -161,7 +161,7 @@ fn lookup_many(file: &[u8], addr: Address, records: &mut [[u64; 7]]) -> GsymAnsw
 // A lookup with position and inlined calls. Most addresses have few frames, and a large space costs more to fill than
 // they cost to read; more room changes nothing but 14.
 fn lookup_all(file: &[u8], addr: Address, records: &mut [[u64; 7]]) -> GsymAnswer
-    ensures { LooksUp file.now addr allOptions records.old records.new result }
+    ensures { LooksUp file.now addr all_options records.old records.new result }
 {
     let few = lookup_few(file, addr, records);
     if few.number != types::TOO_MANY_FRAMES as u32 {
@@ -181,7 +181,7 @@ pub extern "C" fn gsym_lookup(
     options: u32,
     frames: &mut [[u64; 7]],
 ) -> GsymAnswer
-    ensures { LooksUp file.now (address addr) (optionsOf options) frames.old frames.new result }
+    ensures { LooksUp file.now (address addr) (options_of options) frames.old frames.new result }
 {
     let asked = asked_by(options);
     if asks_frames(asked) {

@@ -9,7 +9,7 @@ use native.Mathlib.Omega.{arith}
 use Rattle.types.specs.declared.InlineFrame.{InlineFrame}
 use Rattle.inline.specs.Frames.{frames}
 use Rattle.inline.specs.Store.{flat}
-use Rattle.inline.specs.Block.{Block, listed, refused, block_of, roomOf, listing, framesOf, Lists}
+use Rattle.inline.specs.Block.{Block, listed, refused, block_of, room_of, listing, frames_of, Lists}
 use Rattle.inline.specs.declared.Listed.{Listed}
 use Rattle.inline.proofs.Demand.{lists, reads, refused-no}
 
@@ -29,8 +29,8 @@ block_room symbol addr room bytes fs e =
     subst (λ (l : List InlineFrame). length l ≤ room) p R.few
 
 -- the count that goes with what a block gives
-listing-count : (b : Block) → (listing b).count ≡ length (framesOf b)
-unfolding listing framesOf
+listing-count : (b : Block) → (listing b).count ≡ length (frames_of b)
+unfolding listing frames_of
 listing-count (listed fs) = refl
 listing-count (refused e) = refl
 
@@ -38,24 +38,24 @@ module _ (bytes : List ℕ) (symbol addr : ℕ) (entry exit : List ℕ) (r : Lis
     (L : Lists bytes symbol addr entry exit r) where
   -- what the block gives, as the contract has it
   given : Block
-  given = block_of symbol addr (roomOf entry) bytes
+  given = block_of symbol addr (room_of entry) bytes
 
   -- number 0: frames
   pub number-zero :
       r.number ≡ 0 →
-      block_of symbol addr (roomOf entry) bytes ≡ listed (framesOf (block_of symbol addr (roomOf entry) bytes))
-  unfolding listing framesOf given
+      block_of symbol addr (room_of entry) bytes ≡ listed (frames_of (block_of symbol addr (room_of entry) bytes))
+  unfolding listing frames_of given
   number-zero z = go given refl
     where
-      go : (b : Block) → given ≡ b → b ≡ listed (framesOf b)
+      go : (b : Block) → given ≡ b → b ≡ listed (frames_of b)
       go (listed fs) q = refl
       go (refused e) q =
           let h : r.number ≡ e = ap (λ (x : Listed). x.number) (L.says ∙ ap listing q) in
-          let n = refused-no symbol addr (roomOf entry) bytes e q in
+          let n = refused-no symbol addr (room_of entry) bytes e q in
           absurd (omega (arith, n.0))
 
   -- any other: the refusal of this number
-  pub number-other : (r.number ≡ 0 → ⊥) → block_of symbol addr (roomOf entry) bytes ≡ refused r.number
+  pub number-other : (r.number ≡ 0 → ⊥) → block_of symbol addr (room_of entry) bytes ≡ refused r.number
   unfolding listing given
   number-other z = go given refl
     where
@@ -63,8 +63,8 @@ module _ (bytes : List ℕ) (symbol addr : ℕ) (entry exit : List ℕ) (r : Lis
       go (listed fs) q = absurd (z (ap (λ (x : Listed). x.number) (L.says ∙ ap listing q)))
       go (refused e) q = ap refused (sym (ap (λ (x : Listed). x.number) (L.says ∙ ap listing q)))
 
-  pub count-is : r.count ≡ length (framesOf (block_of symbol addr (roomOf entry) bytes))
-  count-is = ap (λ (x : Listed). x.count) L.says ∙ listing-count (block_of symbol addr (roomOf entry) bytes)
+  pub count-is : r.count ≡ length (frames_of (block_of symbol addr (room_of entry) bytes))
+  count-is = ap (λ (x : Listed). x.count) L.says ∙ listing-count (block_of symbol addr (room_of entry) bytes)
 
   -- the frames lie within the store, and there is room for them
   pub count-within : 3 * r.count ≤ length exit
@@ -73,19 +73,19 @@ module _ (bytes : List ℕ) (symbol addr : ℕ) (entry exit : List ℕ) (r : Lis
         arith,
         ap length L.frames,
         length-take (3 * r.count) exit,
-        flat-length (framesOf (block_of symbol addr (roomOf entry) bytes)),
+        flat-length (frames_of (block_of symbol addr (room_of entry) bytes)),
         count-is,
       )
 
-  pub count_room : r.count ≤ roomOf entry
-  unfolding given framesOf
+  pub count_room : r.count ≤ room_of entry
+  unfolding given frames_of
   count_room = go given refl
     where
-      go : (b : Block) → given ≡ b → r.count ≤ roomOf entry
+      go : (b : Block) → given ≡ b → r.count ≤ room_of entry
       go (listed fs) q =
-          let n : r.count ≡ length fs = count-is ∙ ap (λ (b : Block). length (framesOf b)) q in
-          let m = block_room symbol addr (roomOf entry) bytes fs q in
+          let n : r.count ≡ length fs = count-is ∙ ap (λ (b : Block). length (frames_of b)) q in
+          let m = block_room symbol addr (room_of entry) bytes fs q in
           omega arith
       go (refused e) q =
-          let n : r.count ≡ 0 = count-is ∙ ap (λ (b : Block). length (framesOf b)) q in
+          let n : r.count ≡ 0 = count-is ∙ ap (λ (b : Block). length (frames_of b)) q in
           omega arith

@@ -5,19 +5,19 @@ use mathlib.Core.List.{List}
 use mathlib.Core.Path.{◌≡◌, sym, ap, subst, ◌∙◌}
 use lib.ListN.{length}
 use native.Mathlib.Omega.{arith}
-use Rattle.inline.specs.Store.{flat, framesIn}
+use Rattle.inline.specs.Store.{flat, frames_in}
 use Rattle.inline.specs.Walk.{view, WalkGoes, Walked}
 use Rattle.inline.specs.Block.{
   Block,
   listed,
   refused,
-  faultNo,
-  rootCtx,
-  blockFrom,
+  fault_no,
+  root_ctx,
+  block_from,
   block_of,
-  roomOf,
+  room_of,
   listing,
-  framesOf,
+  frames_of,
   Lists,
 }
 use Rattle.inline.specs.declared.head.Fault.{Fault}
@@ -25,43 +25,43 @@ use Rattle.inline.specs.declared.walk.Walk.{Walk}
 use Rattle.inline.specs.declared.walk.Walk.TheVariants as walk
 use Rattle.inline.proofs.Stores.{frames-length, frames-flat}
 
-module _ (s : List ℕ) (symbol addr : ℕ) (xs : List ℕ) (room : ℕ) (ys : List ℕ) (r : Walk) (R : room ≡ roomOf xs)
-    (W : Walked s (rootCtx symbol addr room) 0 xs 0 ys r) (K : length ys ≡ length xs) where
-  root : blockFrom (view r ys) ≡ block_of symbol addr (roomOf xs) s
-  unfolding block_of framesIn
-  root = ap blockFrom (W.says (length s) (omega arith)) ∙ ap (λ (m : ℕ). block_of symbol addr m s) R
+module _ (s : List ℕ) (symbol addr : ℕ) (xs : List ℕ) (room : ℕ) (ys : List ℕ) (r : Walk) (R : room ≡ room_of xs)
+    (W : Walked s (root_ctx symbol addr room) 0 xs 0 ys r) (K : length ys ≡ length xs) where
+  root : block_from (view r ys) ≡ block_of symbol addr (room_of xs) s
+  unfolding block_of frames_in
+  root = ap block_from (W.says (length s) (omega arith)) ∙ ap (λ (m : ℕ). block_of symbol addr m s) R
 
   found :
-      (c : ℕ) → c ≤ room → listed (framesIn c ys) ≡ block_of symbol addr (roomOf xs) s →
+      (c : ℕ) → c ≤ room → listed (frames_in c ys) ≡ block_of symbol addr (room_of xs) s →
       Lists s symbol addr xs ys (record { number = 0; count = c })
-  unfolding listing framesOf
+  unfolding listing frames_of
   found c le e = record {
     says = ap (λ (n : ℕ). record { number = 0; count = n }) (sym (frames-length c ys)) ∙ ap listing e;
-    frames = frames-flat c ys (omega arith) ∙ ap (λ (b : Block). flat (framesOf b)) e;
+    frames = frames-flat c ys (omega arith) ∙ ap (λ (b : Block). flat (frames_of b)) e;
     kept = K;
   }
 
   pub lists-end : (n c : ℕ) → r ≡ walk.End n c → Lists s symbol addr xs ys (record { number = 0; count = c })
-  unfolding blockFrom
+  unfolding block_from
   lists-end n c e =
       let g : WalkGoes 0 (length s) room (walk.End n c) = subst (WalkGoes 0 (length s) room) e W.goes in
-      found c g.2 (ap (λ (w : Walk). blockFrom (view w ys)) (sym e) ∙ root)
+      found c g.2 (ap (λ (w : Walk). block_from (view w ys)) (sym e) ∙ root)
 
   pub lists-past : (n c : ℕ) → r ≡ walk.Past n c → Lists s symbol addr xs ys (record { number = 0; count = c })
-  unfolding blockFrom
+  unfolding block_from
   lists-past n c e =
       let g : WalkGoes 0 (length s) room (walk.Past n c) = subst (WalkGoes 0 (length s) room) e W.goes in
-      found c g.2 (ap (λ (w : Walk). blockFrom (view w ys)) (sym e) ∙ root)
+      found c g.2 (ap (λ (w : Walk). block_from (view w ys)) (sym e) ∙ root)
 
   pub lists-bad :
-      (f : Fault) → r ≡ walk.Bad f → (e : ℕ) → e ≡ faultNo f →
+      (f : Fault) → r ≡ walk.Bad f → (e : ℕ) → e ≡ fault_no f →
       Lists s symbol addr xs ys (record { number = e; count = 0 })
-  unfolding blockFrom listing framesOf flat
+  unfolding block_from listing frames_of flat
   lists-bad f p e q =
-      let b : refused (faultNo f) ≡ block_of symbol addr (roomOf xs) s =
-      ap (λ (w : Walk). blockFrom (view w ys)) (sym p) ∙ root in
+      let b : refused (fault_no f) ≡ block_of symbol addr (room_of xs) s =
+      ap (λ (w : Walk). block_from (view w ys)) (sym p) ∙ root in
       record {
         says = ap (λ (n : ℕ). record { number = n; count = 0 }) q ∙ ap listing b;
-        frames = ap (λ (x : Block). flat (framesOf x)) b;
+        frames = ap (λ (x : Block). flat (frames_of x)) b;
         kept = K;
       }

@@ -6,7 +6,7 @@ use mathlib.Core.Option.{some}
 use mathlib.Core.Path.{◌≡◌, refl, ap, sym, subst, ◌∙◌}
 use native.Mathlib.Omega.{arith}
 use Rattle.inline.specs.Tree.{Node, Forest, none, tree}
-use Rattle.inline.specs.Frames.{childBase}
+use Rattle.inline.specs.Frames.{child_base}
 use Rattle.inline.specs.Fits.{Fits, depth}
 use Rattle.inline.specs.Paths.{
   NodePath,
@@ -16,7 +16,7 @@ use Rattle.inline.specs.Paths.{
   UpTo,
   level,
   Placed,
-  nodeAt,
+  node_at,
   Contains,
   Open,
   Judged,
@@ -49,7 +49,7 @@ later-child (under i p) k = refl
 
 module _ (addr base : ℕ) (n : Node) (kids rest : Forest) where
   judged-under :
-      (p : NodePath) → Contains addr base n → Judged addr (childBase base n) kids p →
+      (p : NodePath) → Contains addr base n → Judged addr (child_base base n) kids p →
       Judged addr base (tree n kids rest) (under 0 p)
   judged-under p c (on-top i e) = of-open (top 0) i (ap (under 0) e) ((open-first addr base n kids rest).1 c)
   judged-under p c (of-open q k e o) =
@@ -57,7 +57,7 @@ module _ (addr base : ℕ) (n : Node) (kids rest : Forest) where
 
   judged-under-inv :
       (p : NodePath) → Judged addr base (tree n kids rest) (under 0 p) →
-      Contains addr base n × Judged addr (childBase base n) kids p
+      Contains addr base n × Judged addr (child_base base n) kids p
   judged-under-inv p (on-top i e) = let z : ◌≡◌ {A = ℕ} 0 1 = cc in absurd (omega arith)
   judged-under-inv p (of-open (top i) k e o) =
       let a : i ≡ 0 = cc in
@@ -129,7 +129,7 @@ fits-judged addr base (tree n kids rest) f (top (suc i)) x e j =
 fits-judged addr base (tree n kids rest) f (under zero p) x e j =
     let d = sym (node-under base n kids rest p) ∙ e in
     let c = judged-under-inv addr base n kids rest p j in
-    fits-judged addr (childBase base n) kids (f.2 ((contains-iff addr base n).1 c.0)) p x d c.1
+    fits-judged addr (child_base base n) kids (f.2 ((contains-iff addr base n).1 c.0)) p x d c.1
 fits-judged addr base (tree n kids rest) f (under (suc i) p) x e j =
     let d = sym (node-later base n kids rest (under i p)) ∙ e in
     fits-judged addr base rest f.3 (under i p) x d (judged-later-inv addr base n kids rest (under i p) j)
@@ -144,7 +144,7 @@ judged-fits addr base (tree n kids rest) f =
       own.1,
       λ h.
           let c = (contains-iff addr base n).0 h in
-          judged-fits addr (childBase base n) kids
+          judged-fits addr (child_base base n) kids
           (λ p x e j. f (under 0 p) x (node-under base n kids rest p ∙ e) (judged-under addr base n kids rest p c j)),
       judged-fits addr base rest
           (λ p x e j. f (later p) x (node-later base n kids rest p ∙ e) (judged-later addr base n kids rest p j)),
@@ -161,14 +161,14 @@ level-later (top i) = refl
 level-later (under i p) = refl
 
 level-depth :
-    (base : ℕ) (forest : Forest) (p : NodePath) (x : Placed) → nodeAt base forest p ≡ some x → level p ≤ depth forest
+    (base : ℕ) (forest : Forest) (p : NodePath) (x : Placed) → node_at base forest p ≡ some x → level p ≤ depth forest
 unfolding depth
 level-depth base none p x e = nothing (sym (none-at base p) ∙ e)
 level-depth base (tree n kids rest) (top zero) x e = omega arith
 level-depth base (tree n kids rest) (top (suc i)) x e =
     omega (arith, level-depth base rest (top i) x (sym (node-later base n kids rest (top i)) ∙ e))
 level-depth base (tree n kids rest) (under zero p) x e =
-    omega (arith, level-depth (childBase base n) kids p x (sym (node-under base n kids rest p) ∙ e))
+    omega (arith, level-depth (child_base base n) kids p x (sym (node-under base n kids rest p) ∙ e))
 level-depth base (tree n kids rest) (under (suc i) p) x e =
     omega (arith, level-depth base rest (under i p) x (sym (node-later base n kids rest (under i p)) ∙ e))
 
@@ -180,7 +180,7 @@ none-on-depth zero base (tree n kids rest) f =
 none-on-depth (suc l) base (tree n kids rest) f =
     omega (
       arith,
-      none-on-depth l (childBase base n) kids (λ p x e h. f (under 0 p) x (node-under base n kids rest p ∙ e) (ap suc h)),
+      none-on-depth l (child_base base n) kids (λ p x e h. f (under 0 p) x (node-under base n kids rest p ∙ e) (ap suc h)),
       none-on-depth (suc l) base rest (λ p x e h. f (later p) x (node-later base n kids rest p ∙ e) (level-later p ∙ h)),
     )
 

@@ -158,10 +158,10 @@ rises-map f mono (p ∷ ps) r = (
 )
 
 module _ (d : NodePath) where
-  getD-mem : (ps : List NodePath) (i : ℕ) → i < length ps → Memᴰ (get_or ps i d) ps
-  getD-mem [] i h = absurd (omega arith)
-  getD-mem (p ∷ ps) zero h = Memᴰ.head refl
-  getD-mem (p ∷ ps) (suc i) h = Memᴰ.tail (getD-mem ps i (omega arith))
+  get_or-mem : (ps : List NodePath) (i : ℕ) → i < length ps → Memᴰ (get_or ps i d) ps
+  get_or-mem [] i h = absurd (omega arith)
+  get_or-mem (p ∷ ps) zero h = Memᴰ.head refl
+  get_or-mem (p ∷ ps) (suc i) h = Memᴰ.tail (get_or-mem ps i (omega arith))
 
   -- by places: an earlier one holds an earlier path
   pub rises-at :
@@ -169,7 +169,7 @@ module _ (d : NodePath) where
   unfolding Rises
   rises-at [] i j r l h = absurd (omega arith)
   rises-at (p ∷ ps) i zero r l h = absurd (omega arith)
-  rises-at (p ∷ ps) zero (suc j) r l h = r.0 (get_or ps j d) (getD-mem ps j (omega arith))
+  rises-at (p ∷ ps) zero (suc j) r l h = r.0 (get_or ps j d) (get_or-mem ps j (omega arith))
   rises-at (p ∷ ps) (suc i) (suc j) r l h = rises-at ps i j r.1 (omega arith) (omega arith)
 
   -- no path stands at two places

@@ -24,7 +24,7 @@ use borrow.Author.Tests.{eqb-false, ne_eqb}
 use Rattle.types.specs.declared.InlineFrame.{InlineFrame}
 use Rattle.reads.specs.Pick.{pick}
 use Rattle.inline.specs.Tree.{Node, Forest, tree}
-use Rattle.inline.specs.Frames.{anyIn, childBase, frame_of, named}
+use Rattle.inline.specs.Frames.{any_in, child_base, frame_of, named}
 use Rattle.inline.specs.Paths.{
   NodePath,
   top,
@@ -39,8 +39,8 @@ use Rattle.inline.specs.Paths.{
   inside,
   Rises,
   later,
-  ownPath,
-  framePaths,
+  own_path,
+  frame_paths,
 }
 use Rattle.inline.proofs.ByPathsOrder.{
   first-later,
@@ -61,7 +61,7 @@ use Rattle.inline.proofs.ByPathsWalk.{
 }
 
 module _ (p : NodePath) where
-  own-inv : (n : Node) → Memᴰ p (ownPath n) → (p ≡ top 0) × (n.name ≡ 0 → ⊥)
+  own-inv : (n : Node) → Memᴰ p (own_path n) → (p ≡ top 0) × (n.name ≡ 0 → ⊥)
   own-inv n = go (eqb n.name 0) refl
     where
       go : (z : Bool) → eqb n.name 0 ≡ z → Memᴰ p (pick z [] (top 0 ∷ [])) → (p ≡ top 0) × (n.name ≡ 0 → ⊥)
@@ -72,7 +72,7 @@ module _ (p : NodePath) where
   pick_inv true ps m = (refl, m)
   pick_inv false ps m = absurd (Memᴰ.not-nil m)
 
-rises-own : (n : Node) → Rises (ownPath n)
+rises-own : (n : Node) → Rises (own_path n)
 rises-own n = go (eqb n.name 0)
   where
     go : (z : Bool) → Rises (pick z [] (top 0 ∷ []))
@@ -90,13 +90,13 @@ shown = Option.map (λ x. frame_of x.node)
 module _ (addr base : ℕ) (n : Node) (kids rest : Forest) where
   -- of the children, of the node with all below it, of the nodes after it
   abbrev below : List NodePath
-  below = framePaths addr (childBase base n) kids
+  below = frame_paths addr (child_base base n) kids
 
   abbrev front : List NodePath
-  front = pick (anyIn addr base n.ranges) (ownPath n ++ map (under 0) below) []
+  front = pick (any_in addr base n.ranges) (own_path n ++ map (under 0) below) []
 
   abbrev after : List NodePath
-  after = framePaths addr base rest
+  after = frame_paths addr base rest
 
   -- ---- members
 
@@ -109,14 +109,14 @@ module _ (addr base : ℕ) (n : Node) (kids rest : Forest) where
       (rw ((contains-iff addr base n).1 c.1, ne_eqb _ _ c.0) (Memᴰ.head refl))
 
   pub listed-under :
-      (p : NodePath) → (IsFrame addr (childBase base n) kids p → Memᴰ p below) →
+      (p : NodePath) → (IsFrame addr (child_base base n) kids p → Memᴰ p below) →
       IsFrame addr base (tree n kids rest) (under 0 p) → Memᴰ (under 0 p) (front ++ map later after)
   listed-under p ih f =
       let c = (frame-under addr base n kids rest p).0 f in
       Memᴰ.append_left
       {s = front}
       (map later after)
-      (rw ((contains-iff addr base n).1 c.0) (Memᴰ.append_right (ownPath n) (Memᴰ.map (under 0) (ih c.1))))
+      (rw ((contains-iff addr base n).1 c.0) (Memᴰ.append_right (own_path n) (Memᴰ.map (under 0) (ih c.1))))
 
   pub listed-later :
       (p : NodePath) → (IsFrame addr base rest p → Memᴰ p after) →
@@ -124,13 +124,13 @@ module _ (addr base : ℕ) (n : Node) (kids rest : Forest) where
   listed-later p ih f = Memᴰ.append_right front (Memᴰ.map later (ih ((frame-later addr base n kids rest p).0 f)))
 
   front-inv :
-      (p : NodePath) → ((q : NodePath) → Memᴰ q below → IsFrame addr (childBase base n) kids q) →
+      (p : NodePath) → ((q : NodePath) → Memᴰ q below → IsFrame addr (child_base base n) kids q) →
       Memᴰ p front → IsFrame addr base (tree n kids rest) p
   front-inv p ih m =
-      let i = pick_inv p (anyIn addr base n.ranges) (ownPath n ++ map (under 0) below) m in
+      let i = pick_inv p (any_in addr base n.ranges) (own_path n ++ map (under 0) below) m in
       let c = (contains-iff addr base n).0 i.0 in
       ⊎_elim
-      (λ (o : Memᴰ p (ownPath n)).
+      (λ (o : Memᴰ p (own_path n)).
       let j = own-inv p n o in
       subst (IsFrame addr base (tree n kids rest)) (sym j.0) ((frame-first addr base n kids rest).1 (j.1, c)))
       (λ (o : Memᴰ p (map (under 0) below)).
@@ -139,7 +139,7 @@ module _ (addr base : ℕ) (n : Node) (kids rest : Forest) where
       (IsFrame addr base (tree n kids rest))
       j.2
       ((frame-under addr base n kids rest j.0).1 (c, ih j.0 j.1)))
-      (Memᴰ.append_cases (ownPath n) i.1)
+      (Memᴰ.append_cases (own_path n) i.1)
 
   later-inv :
       (p : NodePath) → ((q : NodePath) → Memᴰ q after → IsFrame addr base rest q) →
@@ -152,7 +152,7 @@ module _ (addr base : ℕ) (n : Node) (kids rest : Forest) where
       ((frame-later addr base n kids rest j.0).1 (ih j.0 j.1))
 
   pub listed-inv :
-      (p : NodePath) → ((q : NodePath) → Memᴰ q below → IsFrame addr (childBase base n) kids q) →
+      (p : NodePath) → ((q : NodePath) → Memᴰ q below → IsFrame addr (child_base base n) kids q) →
       ((q : NodePath) → Memᴰ q after → IsFrame addr base rest q) →
       Memᴰ p (front ++ map later after) → IsFrame addr base (tree n kids rest) p
   listed-inv p ik ir m = ⊎_elim (front-inv p ik) (later-inv p ir) (Memᴰ.append_cases front m)
@@ -162,17 +162,17 @@ module _ (addr base : ℕ) (n : Node) (kids rest : Forest) where
   front-first : (p : NodePath) → Memᴰ p front → first p ≡ 0
   front-first p m =
       ⊎_elim
-      (λ (o : Memᴰ p (ownPath n)). ap first (own-inv p n o).0)
+      (λ (o : Memᴰ p (own_path n)). ap first (own-inv p n o).0)
       (λ (o : Memᴰ p (map (under 0) below)). ap first (sym (Memᴰ.of_map (under 0) below o).2))
-      (Memᴰ.append_cases (ownPath n)
-      (pick_inv p (anyIn addr base n.ranges) (ownPath n ++ map (under 0) below) m).1)
+      (Memᴰ.append_cases (own_path n)
+      (pick_inv p (any_in addr base n.ranges) (own_path n ++ map (under 0) below) m).1)
 
   -- the node before all below it
   rises-front : Rises below → Rises front
   rises-front r =
-      rises-pick (anyIn addr base n.ranges) (ownPath n ++ map (under 0) below)
+      rises-pick (any_in addr base n.ranges) (own_path n ++ map (under 0) below)
       (rises-append
-      (ownPath n)
+      (own_path n)
       (map (under 0) below)
       (rises-own n)
       (rises-map (under 0) (λ p q b. inside refl b) below r)
@@ -198,14 +198,14 @@ module _ (addr base : ℕ) (n : Node) (kids rest : Forest) where
   abbrev here : NodePath → Option InlineFrame
   here = frame_at base (tree n kids rest)
 
-  frames-own : map here (ownPath n) ≡ map some (named n)
+  frames-own : map here (own_path n) ≡ map some (named n)
   frames-own = go (eqb n.name 0)
     where
       go : (z : Bool) → map here (pick z [] (top 0 ∷ [])) ≡ map some (pick z [] (frame_of n ∷ []))
       go true = refl
       go false = ap (λ x. shown x ∷ []) (node-first base n kids rest)
 
-  frames-under : (ps : List NodePath) → map here (map (under 0) ps) ≡ map (frame_at (childBase base n) kids) ps
+  frames-under : (ps : List NodePath) → map here (map (under 0) ps) ≡ map (frame_at (child_base base n) kids) ps
   frames-under ps =
       map-map here (under 0) ps
       ∙ ap (λ f. map f ps) (fun_ext (λ p. ap shown (node-under base n kids rest p)))
@@ -215,23 +215,23 @@ module _ (addr base : ℕ) (n : Node) (kids rest : Forest) where
       map-map here later ps ∙ ap (λ f. map f ps) (fun_ext (λ p. ap shown (node-later base n kids rest p)))
 
   frames-front :
-      (fs : List InlineFrame) → map (frame_at (childBase base n) kids) below ≡ map some fs →
-      map here front ≡ map some (pick (anyIn addr base n.ranges) (named n ++ fs) [])
-  frames-front fs ih = go (anyIn addr base n.ranges)
+      (fs : List InlineFrame) → map (frame_at (child_base base n) kids) below ≡ map some fs →
+      map here front ≡ map some (pick (any_in addr base n.ranges) (named n ++ fs) [])
+  frames-front fs ih = go (any_in addr base n.ranges)
     where
-      go : (t : Bool) → map here (pick t (ownPath n ++ map (under 0) below) []) ≡ map some (pick t (named n ++ fs) [])
+      go : (t : Bool) → map here (pick t (own_path n ++ map (under 0) below) []) ≡ map some (pick t (named n ++ fs) [])
       go true =
-          map-append here (ownPath n) (map (under 0) below)
+          map-append here (own_path n) (map (under 0) below)
           ∙ ap₂ ◌++◌ frames-own (frames-under below ∙ ih)
           ∙ sym (map-append some (named n) fs)
       go false = refl
 
   pub frames-step :
-      (fs gs : List InlineFrame) → map (frame_at (childBase base n) kids) below ≡ map some fs →
+      (fs gs : List InlineFrame) → map (frame_at (child_base base n) kids) below ≡ map some fs →
       map (frame_at base rest) after ≡ map some gs →
       map here (front ++ map later after)
-      ≡ map some (pick (anyIn addr base n.ranges) (named n ++ fs) [] ++ gs)
+      ≡ map some (pick (any_in addr base n.ranges) (named n ++ fs) [] ++ gs)
   frames-step fs gs ik ir =
       map-append here front (map later after)
       ∙ ap₂ ◌++◌ (frames-front fs ik) (frames-later after ∙ ir)
-      ∙ sym (map-append some (pick (anyIn addr base n.ranges) (named n ++ fs) []) gs)
+      ∙ sym (map-append some (pick (any_in addr base n.ranges) (named n ++ fs) []) gs)

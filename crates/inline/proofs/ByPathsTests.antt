@@ -9,8 +9,8 @@ use lib.Dec.{ltb, leb}
 use borrow.Author.Tests.{ltb-true, ltb-false, leb-true, lt-ltb, le-ltb, le-leb}
 use Rattle.reads.specs.Pick.{pick}
 use Rattle.inline.specs.Tree.{Range, Node}
-use Rattle.inline.specs.Frames.{in_range, anyIn}
-use Rattle.inline.specs.Fits.{mostAddress, mostFile, tooLarge, anyLarge}
+use Rattle.inline.specs.Frames.{in_range, any_in}
+use Rattle.inline.specs.Fits.{most_address, most_file, too_large, any_large}
 use Rattle.inline.specs.Paths.{Contains, NodeFits}
 
 -- ---- a test that some range of a list meets
@@ -58,13 +58,13 @@ module _
 -- ---- containing the address
 
 module _ (addr base : ℕ) where
-  in-nil : anyIn addr base [] ≡ false
-  unfolding anyIn
+  in-nil : any_in addr base [] ≡ false
+  unfolding any_in
   in-nil = refl
 
   in-cons :
-      (r : Range) (rs : List Range) → anyIn addr base (r ∷ rs) ≡ pick (in_range addr base r) true (anyIn addr base rs)
-  unfolding anyIn
+      (r : Range) (rs : List Range) → any_in addr base (r ∷ rs) ≡ pick (in_range addr base r) true (any_in addr base rs)
+  unfolding any_in
   in-cons r rs = refl
 
   in-range-inv : (r : Range) → in_range addr base r ≡ true → (base + r.off ≤ addr) × (addr < base + r.off + r.size)
@@ -81,63 +81,63 @@ module _ (addr base : ℕ) where
   unfolding in_range
   in-range r s e = rw (le-leb _ _ s, lt-ltb _ _ e)
 
-  -- the test `anyIn` says whether a node contains the address
-  pub contains-iff : (n : Node) → (anyIn addr base n.ranges ≡ true) ↔ Contains addr base n
+  -- the test `any_in` says whether a node contains the address
+  pub contains-iff : (n : Node) → (any_in addr base n.ranges ≡ true) ↔ Contains addr base n
   contains-iff n = (to, from)
     where
-      to : anyIn addr base n.ranges ≡ true → Contains addr base n
+      to : any_in addr base n.ranges ≡ true → Contains addr base n
       to h =
-          let i = any-inv (in_range addr base) (anyIn addr base) in-nil in-cons n.ranges h in
+          let i = any-inv (in_range addr base) (any_in addr base) in-nil in-cons n.ranges h in
           let b = in-range-inv i.0 i.2 in
           record { range = i.0; own = i.1; start = b.0; end = b.1 }
 
-      from : Contains addr base n → anyIn addr base n.ranges ≡ true
+      from : Contains addr base n → any_in addr base n.ranges ≡ true
       from c =
-          any_of (in_range addr base) (anyIn addr base) in-nil in-cons c.range n.ranges c.own
+          any_of (in_range addr base) (any_in addr base) in-nil in-cons c.range n.ranges c.own
           (in-range c.range c.start c.end)
 
 -- ---- sums and call files within the limits
 
 module _ (base : ℕ) where
-  large-nil : anyLarge base [] ≡ false
-  unfolding anyLarge
+  large-nil : any_large base [] ≡ false
+  unfolding any_large
   large-nil = refl
 
-  large-cons : (r : Range) (rs : List Range) → anyLarge base (r ∷ rs) ≡ pick (tooLarge base r) true (anyLarge base rs)
-  unfolding anyLarge
+  large-cons : (r : Range) (rs : List Range) → any_large base (r ∷ rs) ≡ pick (too_large base r) true (any_large base rs)
+  unfolding any_large
   large-cons r rs = refl
 
   small-inv :
-      (r : Range) → tooLarge base r ≡ false → (base + r.off ≤ mostAddress) × (base + r.off + r.size ≤ mostAddress)
-  unfolding tooLarge
-  small-inv r = go (ltb mostAddress (base + r.off)) refl
+      (r : Range) → too_large base r ≡ false → (base + r.off ≤ most_address) × (base + r.off + r.size ≤ most_address)
+  unfolding too_large
+  small-inv r = go (ltb most_address (base + r.off)) refl
     where
       go :
-          (t : Bool) → ltb mostAddress (base + r.off) ≡ t →
-          pick t true (ltb mostAddress (base + r.off + r.size)) ≡ false →
-          (base + r.off ≤ mostAddress) × (base + r.off + r.size ≤ mostAddress)
+          (t : Bool) → ltb most_address (base + r.off) ≡ t →
+          pick t true (ltb most_address (base + r.off + r.size)) ≡ false →
+          (base + r.off ≤ most_address) × (base + r.off + r.size ≤ most_address)
       go true p q = absurd (true≢false q)
       go false p q = (ltb-false _ _ p, ltb-false _ _ q)
 
-  small : (r : Range) → base + r.off ≤ mostAddress → base + r.off + r.size ≤ mostAddress → tooLarge base r ≡ false
-  unfolding tooLarge
+  small : (r : Range) → base + r.off ≤ most_address → base + r.off + r.size ≤ most_address → too_large base r ≡ false
+  unfolding too_large
   small r s e = rw (le-ltb _ _ s, le-ltb _ _ e)
 
-  -- the test `anyLarge` and the limit on the call file say whether a node fits
-  pub node-fits-iff : (n : Node) → ((anyLarge base n.ranges ≡ false) × (n.file ≤ mostFile)) ↔ NodeFits base n
+  -- the test `any_large` and the limit on the call file say whether a node fits
+  pub node-fits-iff : (n : Node) → ((any_large base n.ranges ≡ false) × (n.file ≤ most_file)) ↔ NodeFits base n
   node-fits-iff n = (to, from)
     where
       each :
-          anyLarge base n.ranges ≡ false → (r : Range) → Memᴰ r n.ranges →
-          (base + r.off ≤ mostAddress) × (base + r.off + r.size ≤ mostAddress)
-      each h r m = small-inv r (none_of (tooLarge base) (anyLarge base) large-nil large-cons r n.ranges h m)
+          any_large base n.ranges ≡ false → (r : Range) → Memᴰ r n.ranges →
+          (base + r.off ≤ most_address) × (base + r.off + r.size ≤ most_address)
+      each h r m = small-inv r (none_of (too_large base) (any_large base) large-nil large-cons r n.ranges h m)
 
-      to : (anyLarge base n.ranges ≡ false) × (n.file ≤ mostFile) → NodeFits base n
+      to : (any_large base n.ranges ≡ false) × (n.file ≤ most_file) → NodeFits base n
       to h = record { starts = λ r m. (each h.0 r m).0; ends = λ r m. (each h.0 r m).1; file = h.1 }
 
-      from : NodeFits base n → (anyLarge base n.ranges ≡ false) × (n.file ≤ mostFile)
+      from : NodeFits base n → (any_large base n.ranges ≡ false) × (n.file ≤ most_file)
       from f = (
-        none-inv (tooLarge base) (anyLarge base) large-nil large-cons n.ranges
+        none-inv (too_large base) (any_large base) large-nil large-cons n.ranges
             (λ r m. small r (f.starts r m) (f.ends r m)),
         f.file,
       )

@@ -6,14 +6,14 @@ use mathlib.Core.Option.{none as nowhere, some}
 use mathlib.Core.Path.{◌≡◌, refl, ap, sym, subst, ◌∙◌}
 use native.Mathlib.Omega.{arith}
 use Rattle.inline.specs.Tree.{Node, Forest, none, tree}
-use Rattle.inline.specs.Frames.{childBase}
+use Rattle.inline.specs.Frames.{child_base}
 use Rattle.inline.specs.Paths.{
   NodePath,
   top,
   under,
   UpTo,
   Placed,
-  nodeAt,
+  node_at,
   Contains,
   Holds,
   Open,
@@ -44,25 +44,25 @@ up-to-later-inv (under i p) (under j q) u = (under j p, ap (λ k. under k p) u.0
 pub nothing : {A : Type 0} {x : Placed} → nowhere ≡ some x → A
 nothing {x = x} e = let z : ◌≡◌ {A = ℕ} 0 1 = cc in absurd (omega arith)
 
-pub none-at : (base : ℕ) (p : NodePath) → nodeAt base none p ≡ nowhere
-unfolding nodeAt
+pub none-at : (base : ℕ) (p : NodePath) → node_at base none p ≡ nowhere
+unfolding node_at
 none-at base p = refl
 
 module _ (base : ℕ) (n : Node) (kids rest : Forest) where
-  pub node-first : nodeAt base (tree n kids rest) (top 0) ≡ some (record { base = base; node = n })
-  unfolding nodeAt
+  pub node-first : node_at base (tree n kids rest) (top 0) ≡ some (record { base = base; node = n })
+  unfolding node_at
   node-first = refl
 
   pub node-first-is :
-      (x : Placed) → nodeAt base (tree n kids rest) (top 0) ≡ some x → record { base = base; node = n } ≡ x
+      (x : Placed) → node_at base (tree n kids rest) (top 0) ≡ some x → record { base = base; node = n } ≡ x
   node-first-is x e = cc (node-first)
 
-  pub node-under : (p : NodePath) → nodeAt base (tree n kids rest) (under 0 p) ≡ nodeAt (childBase base n) kids p
-  unfolding nodeAt
+  pub node-under : (p : NodePath) → node_at base (tree n kids rest) (under 0 p) ≡ node_at (child_base base n) kids p
+  unfolding node_at
   node-under p = refl
 
-  pub node-later : (p : NodePath) → nodeAt base (tree n kids rest) (later p) ≡ nodeAt base rest p
-  unfolding nodeAt
+  pub node-later : (p : NodePath) → node_at base (tree n kids rest) (later p) ≡ node_at base rest p
+  unfolding node_at
   node-later (top i) = refl
   node-later (under i p) = refl
 
@@ -83,7 +83,7 @@ module _ (addr base : ℕ) (n : Node) (kids rest : Forest) where
     λ c. record { place = record { base = base; node = n }; there = node-first base n kids rest; contains = c },
   )
 
-  holds-under : (p : NodePath) → Holds addr base (tree n kids rest) (under 0 p) ↔ Holds addr (childBase base n) kids p
+  holds-under : (p : NodePath) → Holds addr base (tree n kids rest) (under 0 p) ↔ Holds addr (child_base base n) kids p
   holds-under p = (
     λ h. record { place = h.place; there = sym (node-under base n kids rest p) ∙ h.there; contains = h.contains },
     λ h. record { place = h.place; there = node-under base n kids rest p ∙ h.there; contains = h.contains },
@@ -104,12 +104,12 @@ module _ (addr base : ℕ) (n : Node) (kids rest : Forest) where
 
   pub open-under :
       (p : NodePath) →
-      Open addr base (tree n kids rest) (under 0 p) ↔ (Contains addr base n × Open addr (childBase base n) kids p)
+      Open addr base (tree n kids rest) (under 0 p) ↔ (Contains addr base n × Open addr (child_base base n) kids p)
   open-under p =
       (λ o. (holds-first.0 (o (top 0) refl), λ q u. (holds-under q).0 (o (under 0 q) (refl, u))), from)
     where
       from :
-          Contains addr base n × Open addr (childBase base n) kids p → Open addr base (tree n kids rest) (under 0 p)
+          Contains addr base n × Open addr (child_base base n) kids p → Open addr base (tree n kids rest) (under 0 p)
       from c (top i) u = subst (λ k. Holds addr base (tree n kids rest) (top k)) (sym u) (holds-first.1 c.0)
       from c (under i q) u =
           subst
@@ -153,7 +153,7 @@ module _ (addr base : ℕ) (n : Node) (kids rest : Forest) where
   pub frame-under :
       (p : NodePath) →
       IsFrame addr base (tree n kids rest) (under 0 p)
-      ↔ (Contains addr base n × IsFrame addr (childBase base n) kids p)
+      ↔ (Contains addr base n × IsFrame addr (child_base base n) kids p)
   frame-under p = (
     λ f.
         let o = (open-under addr base n kids rest p).0 f.opened in (

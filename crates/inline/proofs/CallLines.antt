@@ -14,15 +14,15 @@ use Rattle.reads.specs.declared.Read32.{Read32}
 use Rattle.reads.specs.declared.Read32.TheVariants as r32
 use Rattle.types.specs.declared.InlineFrame.{InlineFrame}
 use Rattle.inline.specs.Tree.{Range}
-use Rattle.inline.specs.Fits.{mostFile, anyLarge}
-use Rattle.inline.specs.Head.{withLine, withFile, withName, withKids, tail_at, num_at, rangesAt}
-use Rattle.inline.specs.Head.{Ranges, all, some, Raw, end, cut, part, late, node, withTail, withRanges, withCount}
-use Rattle.inline.specs.Head.{rawAt}
-use Rattle.inline.specs.Judge.{rangesFit, fileFits, judgedOf, seenOf, seen_at}
-use Rattle.inline.specs.Skip.{skipList}
-use Rattle.inline.specs.Walk.{Out, ended, past, bad, Put, full, put, counted, putFrame, frameIn, below}
-use Rattle.inline.specs.Walk.{afterPut, afterSkip, afterJudged, afterSeen, thenSeen, walkList, walkNode}
-use Rattle.inline.specs.Block.{Block, listed, refused, rootCtx, blockFrom, block_of}
+use Rattle.inline.specs.Fits.{most_file, any_large}
+use Rattle.inline.specs.Head.{with_line, with_file, with_name, with_kids, tail_at, num_at, ranges_at}
+use Rattle.inline.specs.Head.{Ranges, all, some, Raw, end, cut, part, late, node, with_tail, with_ranges, with_count}
+use Rattle.inline.specs.Head.{raw_at}
+use Rattle.inline.specs.Judge.{ranges_fit, file_fits, judged_of, seen_of, seen_at}
+use Rattle.inline.specs.Skip.{skip_list}
+use Rattle.inline.specs.Walk.{Out, ended, past, bad, Put, full, put, counted, put_frame, frame_in, below}
+use Rattle.inline.specs.Walk.{after_put, after_skip, after_judged, after_seen, then_seen, walk_list, walk_node}
+use Rattle.inline.specs.Block.{Block, listed, refused, root_ctx, block_from, block_of}
 use Rattle.inline.specs.declared.head.Fault.TheVariants as fault
 use Rattle.inline.specs.declared.head.Num.{Num}
 use Rattle.inline.specs.declared.head.Num.TheVariants as num
@@ -83,23 +83,23 @@ picked P false x y p q = q
 
 -- ---- a head
 
-line-capped : (kids name file : ℕ) (x : Num) → TailCapped (withLine kids name file x)
-unfolding withLine
+line-capped : (kids name file : ℕ) (x : Num) → TailCapped (with_line kids name file x)
+unfolding with_line
 line-capped kids name file (num.Value line n) = omega arith
 line-capped kids name file (num.Bad c) = tt
 
-file-capped : (s : List ℕ) (kids name : ℕ) (x : Num) → TailCapped (withFile s kids name x)
-unfolding withFile
+file-capped : (s : List ℕ) (kids name : ℕ) (x : Num) → TailCapped (with_file s kids name x)
+unfolding with_file
 file-capped s kids name (num.Value file n) = line-capped kids name file (num_at s n)
 file-capped s kids name (num.Bad c) = tt
 
-name-capped : (s : List ℕ) (at kids : ℕ) (x : Read32) → TailCapped (withName s at kids x)
-unfolding withName
+name-capped : (s : List ℕ) (at kids : ℕ) (x : Read32) → TailCapped (with_name s at kids x)
+unfolding with_name
 name-capped s at kids (r32.Value name) = file-capped s kids name (num_at s (at + 5))
 name-capped s at kids r32.Unread = tt
 
-kids-capped : (s : List ℕ) (at : ℕ) (x : Read8) → TailCapped (withKids s at x)
-unfolding withKids
+kids-capped : (s : List ℕ) (at : ℕ) (x : Read8) → TailCapped (with_kids s at x)
+unfolding with_kids
 kids-capped s at (r8.Value kids) = name-capped s at kids (u32_at s (at + 1))
 kids-capped s at r8.Unread = tt
 
@@ -107,49 +107,49 @@ tail-capped : (s : List ℕ) (at : ℕ) → TailCapped (tail_at s at)
 unfolding tail_at
 tail-capped s at = kids-capped s at (u8_at s at)
 
-raw-capped : (s : List ℕ) (at : ℕ) → RawCapped (rawAt s at)
-unfolding rawAt withTail withRanges withCount
+raw-capped : (s : List ℕ) (at : ℕ) → RawCapped (raw_at s at)
+unfolding raw_at with_tail with_ranges with_count
 raw-capped s at = by_count (num_at s at)
   where
-    by-tail : (n : ℕ) (rs : _) (x : Tail) → TailCapped x → RawCapped (withTail n rs x)
+    by-tail : (n : ℕ) (rs : _) (x : Tail) → TailCapped x → RawCapped (with_tail n rs x)
     by-tail n rs (tail.Cut c) l = tt
     by-tail n rs (tail.Late file c) l = tt
     by-tail n rs (tail.Whole t) l = l
 
-    by-ranges : (n : ℕ) (x : Ranges) → RawCapped (withRanges s n x)
+    by-ranges : (n : ℕ) (x : Ranges) → RawCapped (with_ranges s n x)
     by-ranges n (all m rs) = by-tail n rs (tail_at s m) (tail-capped s m)
     by-ranges n (some c rs) = tt
 
-    by_count : (x : Num) → RawCapped (withCount s x)
+    by_count : (x : Num) → RawCapped (with_count s x)
     by_count (num.Value count n) =
-        picked RawCapped (eqb count 0) _ _ tt (by-ranges n (rangesAt count s n))
+        picked RawCapped (eqb count 0) _ _ tt (by-ranges n (ranges_at count s n))
     by_count (num.Bad c) = tt
 
 -- a fault of ranges or of the call file has no line
-fits : (c : Ctx) (rs : List Range) (x : Seen) → SeenCapped x → SeenCapped (rangesFit seen.Bad c rs x)
+fits : (c : Ctx) (rs : List Range) (x : Seen) → SeenCapped x → SeenCapped (ranges_fit seen.Bad c rs x)
 fits c rs x l =
-    picked SeenCapped (ltb 64 c.level) (seen.Bad fault.Level) (pick (anyLarge c.base rs) (seen.Bad fault.Sum) x)
+    picked SeenCapped (ltb 64 c.level) (seen.Bad fault.Level) (pick (any_large c.base rs) (seen.Bad fault.Sum) x)
     tt
-    (picked SeenCapped (anyLarge c.base rs) (seen.Bad fault.Sum) x tt l)
+    (picked SeenCapped (any_large c.base rs) (seen.Bad fault.Sum) x tt l)
 
-file-fits : (file : ℕ) (x : Seen) → SeenCapped x → SeenCapped (fileFits seen.Bad file x)
-file-fits file x l = picked SeenCapped (ltb mostFile file) (seen.Bad fault.CallFile) x tt l
+file-fits : (file : ℕ) (x : Seen) → SeenCapped x → SeenCapped (file_fits seen.Bad file x)
+file-fits file x l = picked SeenCapped (ltb most_file file) (seen.Bad fault.CallFile) x tt l
 
-of-raw : (c : Ctx) (x : Raw) → RawCapped x → SeenCapped (seenOf c x)
-unfolding seenOf
+of-raw : (c : Ctx) (x : Raw) → RawCapped x → SeenCapped (seen_of c x)
+unfolding seen_of
 of-raw c (end n) l = tt
 of-raw c (cut k) l = tt
 of-raw c (part k rs) l = fits c rs (seen.Bad (fault.Unread k)) tt
 of-raw c (late k rs file) l =
-    fits c rs (fileFits seen.Bad file (seen.Bad (fault.Unread k)))
+    fits c rs (file_fits seen.Bad file (seen.Bad (fault.Unread k)))
     (file-fits file (seen.Bad (fault.Unread k)) tt)
 of-raw c (node w) l =
-    fits c w.self.ranges (fileFits seen.Bad w.self.file (seen.Node (judgedOf c w)))
-    (file-fits w.self.file (seen.Node (judgedOf c w)) l)
+    fits c w.self.ranges (file_fits seen.Bad w.self.file (seen.Node (judged_of c w)))
+    (file-fits w.self.file (seen.Node (judged_of c w)) l)
 
 seen-capped : (s : List ℕ) (c : Ctx) (at : ℕ) → SeenCapped (seen_at s c at)
 unfolding seen_at
-seen-capped s c at = of-raw c (rawAt s at) (raw-capped s at)
+seen-capped s c at = of-raw c (raw_at s at) (raw-capped s at)
 
 -- ---- the walk
 
@@ -159,8 +159,8 @@ counted-capped f l = picked Capped (eqb f.name.0 0) _ _ tt (l, tt)
 
 put-capped :
     (c : Ctx) (f : InlineFrame) (acc : List InlineFrame) → f.call_line.0 < 2 ^ 32 → Capped acc →
-    PutCapped (putFrame c f acc)
-unfolding putFrame
+    PutCapped (put_frame c f acc)
+unfolding put_frame
 put-capped c f acc l a =
     picked PutCapped (ltb c.room (length (acc ++ counted f))) _ _ tt
     (capped-append acc (counted f) a (counted-capped f l))
@@ -170,49 +170,49 @@ abbrev Keeps : (ℕ → List InlineFrame → Out) → Type 0
 Keeps go = (n : ℕ) (acc : List InlineFrame) → Capped acc → OutCapped (go n acc)
 
 after-put-capped : (kids : ℕ → List InlineFrame → Out) → Keeps kids → (i : Judged) (x : Put) → PutCapped x →
-    OutCapped (afterPut kids i x)
-unfolding afterPut
+    OutCapped (after_put kids i x)
+unfolding after_put
 after-put-capped kids k i full a = tt
 after-put-capped kids k i (put acc) a = picked OutCapped (eqb i.kids 0) _ _ a (k i.next acc a)
 
-after-skip-capped : (acc : List InlineFrame) → Capped acc → (x : Passed) → OutCapped (afterSkip acc x)
-unfolding afterSkip
+after-skip-capped : (acc : List InlineFrame) → Capped acc → (x : Passed) → OutCapped (after_skip acc x)
+unfolding after_skip
 after-skip-capped acc a (passed.At n) = a
 after-skip-capped acc a (passed.Bad f) = tt
 
 after-seen-capped :
     (reads : Ctx → ℕ → List InlineFrame → Out) → ((c : Ctx) → Keeps (reads c)) → (skips : ℕ → Passed) (c : Ctx)
-    (acc : List InlineFrame) → Capped acc → (x : Seen) → SeenCapped x → OutCapped (afterSeen reads skips c acc x)
-unfolding afterSeen afterJudged
+    (acc : List InlineFrame) → Capped acc → (x : Seen) → SeenCapped x → OutCapped (after_seen reads skips c acc x)
+unfolding after_seen after_judged
 after-seen-capped reads k skips c acc a (seen.End n) l = a
 after-seen-capped reads k skips c acc a (seen.Bad f) l = tt
 after-seen-capped reads k skips c acc a (seen.Node i) l =
     picked OutCapped i.inside _ _
-    (after-put-capped (reads (below c i.base)) (k (below c i.base)) i _ (put-capped c (frameIn i) acc l a))
+    (after-put-capped (reads (below c i.base)) (k (below c i.base)) i _ (put-capped c (frame_in i) acc l a))
     (picked OutCapped (eqb i.kids 0) _ _ a (after-skip-capped acc a (skips i.next)))
 
-then-seen-capped : (go : ℕ → List InlineFrame → Out) → Keeps go → (x : Out) → OutCapped x → OutCapped (thenSeen go x)
-unfolding thenSeen
+then-seen-capped : (go : ℕ → List InlineFrame → Out) → Keeps go → (x : Out) → OutCapped x → OutCapped (then_seen go x)
+unfolding then_seen
 then-seen-capped go k (ended n acc) a = a
 then-seen-capped go k (past n acc) a = k n acc a
 then-seen-capped go k (bad f) a = tt
 
-walk-capped : (fuel : ℕ) (s : List ℕ) (c : Ctx) → Keeps (walkList fuel s c)
-unfolding walkList
+walk-capped : (fuel : ℕ) (s : List ℕ) (c : Ctx) → Keeps (walk_list fuel s c)
+unfolding walk_list
 walk-capped zero s c at acc a = tt
 walk-capped (suc fuel) s c at acc a =
-    then-seen-capped (walkList fuel s c) (walk-capped fuel s c) _
-    (after-seen-capped (walkList fuel s) (walk-capped fuel s) (skipList fuel s (c.level + 1)) c acc a (seen_at s c at)
+    then-seen-capped (walk_list fuel s c) (walk-capped fuel s c) _
+    (after-seen-capped (walk_list fuel s) (walk-capped fuel s) (skip_list fuel s (c.level + 1)) c acc a (seen_at s c at)
     (seen-capped s c at))
 
-node-capped : (s : List ℕ) (c : Ctx) → OutCapped (walkNode (length s) s c 0 [])
-unfolding walkNode Capped
+node-capped : (s : List ℕ) (c : Ctx) → OutCapped (walk_node (length s) s c 0 [])
+unfolding walk_node Capped
 node-capped s c =
-    after-seen-capped (walkList (length s) s) (walk-capped (length s) s) (skipList (length s) s (c.level + 1)) c [] tt
+    after-seen-capped (walk_list (length s) s) (walk-capped (length s) s) (skip_list (length s) s (c.level + 1)) c [] tt
     (seen_at s c 0) (seen-capped s c 0)
 
-from-capped : (x : Out) → OutCapped x → BlockCapped (blockFrom x)
-unfolding blockFrom
+from-capped : (x : Out) → OutCapped x → BlockCapped (block_from x)
+unfolding block_from
 from-capped (ended n fs) l = l
 from-capped (past n fs) l = l
 from-capped (bad f) l = tt
@@ -220,5 +220,5 @@ from-capped (bad f) l = tt
 pub block-capped : (symbol addr room : ℕ) (bytes : List ℕ) → BlockCapped (block_of symbol addr room bytes)
 unfolding block_of
 block-capped symbol addr room bytes =
-    from-capped (walkNode (length bytes) bytes (rootCtx symbol addr room) 0 [])
-    (node-capped bytes (rootCtx symbol addr room))
+    from-capped (walk_node (length bytes) bytes (root_ctx symbol addr room) 0 [])
+    (node-capped bytes (root_ctx symbol addr room))

@@ -8,23 +8,23 @@ use native.Mathlib.Omega.{arith}
 use Rattle.types.specs.declared.InlineFrame.{InlineFrame}
 use Rattle.inline.specs.Frames.{frames}
 use Rattle.inline.specs.Store.{flat}
-use Rattle.inline.specs.Walk.{Out, ended, past, bad, thenSeen, walkNode}
+use Rattle.inline.specs.Walk.{Out, ended, past, bad, then_seen, walk_node}
 use Rattle.inline.specs.Block.{
   Block,
   listed,
   refused,
-  nodeNo,
-  faultNo,
-  rootCtx,
-  blockFrom,
+  node_no,
+  fault_no,
+  root_ctx,
+  block_from,
   block_of,
-  roomOf,
+  room_of,
   listing,
-  framesOf,
+  frames_of,
   Lists,
 }
 use Rattle.inline.specs.Torn.{Read, got, torn, tree_of}
-use Rattle.inline.specs.Said.{Said, fine, wrong, sayForest, sayTorn, out_of, sayRead}
+use Rattle.inline.specs.Said.{Said, fine, wrong, say_forest, say_torn, out_of, say_read}
 use Rattle.inline.specs.Reads.{Reads}
 use Rattle.inline.specs.declared.head.Cause.{Cause}
 use Rattle.inline.specs.declared.head.Cause.TheVariants as cause
@@ -38,28 +38,28 @@ use Rattle.inline.proofs.Says.{say-frames, say-sound}
 
 -- ---- a block says what its tree says
 
-pub root-alone : (x : Out) → blockFrom (thenSeen past x) ≡ blockFrom x
-unfolding blockFrom thenSeen
+pub root-alone : (x : Out) → block_from (then_seen past x) ≡ block_from x
+unfolding block_from then_seen
 root-alone (ended n fs) = refl
 root-alone (past n fs) = refl
 root-alone (bad f) = refl
 
 pub block-is :
     (symbol addr room : ℕ) (bytes : List ℕ) →
-    block_of symbol addr room bytes ≡ blockFrom (sayRead (rootCtx symbol addr room) (tree_of bytes) [])
+    block_of symbol addr room bytes ≡ block_from (say_read (root_ctx symbol addr room) (tree_of bytes) [])
 unfolding block_of tree_of
 block-is symbol addr room bytes =
-    sym (root-alone (walkNode (length bytes) bytes (rootCtx symbol addr room) 0 []))
-    ∙ ap blockFrom (node-root (length bytes) bytes (rootCtx symbol addr room) 0 [])
+    sym (root-alone (walk_node (length bytes) bytes (root_ctx symbol addr room) 0 []))
+    ∙ ap block_from (node-root (length bytes) bytes (root_ctx symbol addr room) 0 [])
 
 -- a refusal's number is one from 10 to 14
-node-no : (k : Cause) → (10 ≤ nodeNo k) × (nodeNo k ≤ 14)
-unfolding nodeNo
+node-no : (k : Cause) → (10 ≤ node_no k) × (node_no k ≤ 14)
+unfolding node_no
 node-no cause.Short = (omega arith, omega arith)
 node-no cause.Wide = (omega arith, omega arith)
 
-pub fault-no : (f : Fault) → (10 ≤ faultNo f) × (faultNo f ≤ 14)
-unfolding faultNo
+pub fault-no : (f : Fault) → (10 ≤ fault_no f) × (fault_no f ≤ 14)
+unfolding fault_no
 fault-no (fault.Unread k) = node-no k
 fault-no fault.Sum = (omega arith, omega arith)
 fault-no fault.CallFile = (omega arith, omega arith)
@@ -68,39 +68,39 @@ fault-no fault.Room = (omega arith, omega arith)
 
 -- what was listed or refused
 from_out :
-    (x : Out) → ((fs : List InlineFrame) → blockFrom x ≡ listed fs → ⊥) →
-    (e : ℕ) × (blockFrom x ≡ refused e) × (10 ≤ e) × (e ≤ 14)
-unfolding blockFrom
+    (x : Out) → ((fs : List InlineFrame) → block_from x ≡ listed fs → ⊥) →
+    (e : ℕ) × (block_from x ≡ refused e) × (10 ≤ e) × (e ≤ 14)
+unfolding block_from
 from_out (ended n fs) h = absurd (h fs refl)
 from_out (past n fs) h = absurd (h fs refl)
-from_out (bad f) h = let b = fault-no f in (faultNo f, refl, b.0, b.1)
+from_out (bad f) h = let b = fault-no f in (fault_no f, refl, b.0, b.1)
 
-out-no : (x : Out) (e : ℕ) → blockFrom x ≡ refused e → (10 ≤ e) × (e ≤ 14)
-unfolding blockFrom
+out-no : (x : Out) (e : ℕ) → block_from x ≡ refused e → (10 ≤ e) × (e ≤ 14)
+unfolding block_from
 out-no (ended n fs) e p = never (let z : ◌≡◌ {A = ℕ} 0 1 = cc in z)
 out-no (past n fs) e p = never (let z : ◌≡◌ {A = ℕ} 0 1 = cc in z)
 out-no (bad f) e p =
-    let q : faultNo f ≡ e = cc in
+    let q : fault_no f ≡ e = cc in
     subst (λ (n : ℕ). (10 ≤ n) × (n ≤ 14)) q (fault-no f)
 
-no-list : (f : Fault) (fs : List InlineFrame) → blockFrom (bad f) ≡ listed fs → ◌≡◌ {A = ℕ} 0 1
-unfolding blockFrom
+no-list : (f : Fault) (fs : List InlineFrame) → block_from (bad f) ≡ listed fs → ◌≡◌ {A = ℕ} 0 1
+unfolding block_from
 no-list f fs p = cc
 
 from-said :
-    (n : ℕ) (fs : List InlineFrame) (x : Said) → blockFrom (out_of n x) ≡ listed fs → x ≡ fine fs
-unfolding blockFrom out_of
+    (n : ℕ) (fs : List InlineFrame) (x : Said) → block_from (out_of n x) ≡ listed fs → x ≡ fine fs
+unfolding block_from out_of
 from-said n fs (fine a) p = cc
 from-said n fs (wrong f) p = never (let z : ◌≡◌ {A = ℕ} 0 1 = cc in z)
 
 from-tree :
     (symbol addr room : ℕ) (bytes : List ℕ) (fs : List InlineFrame) (x : Read) → tree_of bytes ≡ x →
-    blockFrom (sayRead (rootCtx symbol addr room) (tree_of bytes) []) ≡ listed fs → Reads symbol addr room bytes
-unfolding sayRead
+    block_from (say_read (root_ctx symbol addr room) (tree_of bytes) []) ≡ listed fs → Reads symbol addr room bytes
+unfolding say_read
 from-tree symbol addr room bytes fs (got n t) e p =
-    let c = rootCtx symbol addr room in
-    let q = ap (λ (x : Read). blockFrom (sayRead c x [])) (sym e) ∙ p in
-    let s = say-sound t c [] fs (omega arith) (from-said n fs (sayForest c t []) q) in
+    let c = root_ctx symbol addr room in
+    let q = ap (λ (x : Read). block_from (say_read c x [])) (sym e) ∙ p in
+    let s = say-sound t c [] fs (omega arith) (from-said n fs (say_forest c t []) q) in
     record {
       forest = t;
       place = n;
@@ -111,8 +111,8 @@ from-tree symbol addr room bytes fs (got n t) e p =
       few = subst (λ (l : List InlineFrame). length l ≤ room) s.frames-are.same s.frames-are.few;
     }
 from-tree symbol addr room bytes fs (torn t) e p =
-    let q = ap (λ (x : Read). blockFrom (sayRead (rootCtx symbol addr room) x [])) (sym e) ∙ p in
-    never (no-list (sayTorn (rootCtx symbol addr room) t []) fs q)
+    let q = ap (λ (x : Read). block_from (say_read (root_ctx symbol addr room) x [])) (sym e) ∙ p in
+    never (no-list (say_torn (root_ctx symbol addr room) t []) fs q)
 
 module _ (symbol addr room : ℕ) (bytes : List ℕ) where
   -- "The call that reads one block lists exactly the nodes with a name other than 0 that contain the address and whose
@@ -121,12 +121,12 @@ module _ (symbol addr room : ℕ) (bytes : List ℕ) where
   pub lists :
       (R : Reads symbol addr room bytes) →
       block_of symbol addr room bytes ≡ listed (frames addr symbol R.forest)
-  unfolding sayRead out_of blockFrom
+  unfolding say_read out_of block_from
   lists R =
       block-is symbol addr room bytes
-      ∙ ap (λ (x : Read). blockFrom (sayRead (rootCtx symbol addr room) x [])) R.full
-      ∙ ap (λ (x : Said). blockFrom (out_of R.place x))
-      (say-frames R.forest (rootCtx symbol addr room) [] R.sums R.files
+      ∙ ap (λ (x : Read). block_from (say_read (root_ctx symbol addr room) x [])) R.full
+      ∙ ap (λ (x : Said). block_from (out_of R.place x))
+      (say-frames R.forest (root_ctx symbol addr room) [] R.sums R.files
       (depth-levels 1 R.forest (omega (arith, R.levels))) R.few)
 
   -- frames are listed only where the block reads
@@ -136,7 +136,7 @@ module _ (symbol addr room : ℕ) (bytes : List ℕ) where
   -- a refusal's number
   pub refused-no : (e : ℕ) → block_of symbol addr room bytes ≡ refused e → (10 ≤ e) × (e ≤ 14)
   unfolding block_of
-  refused-no e p = out-no (walkNode (length bytes) bytes (rootCtx symbol addr room) 0 []) e p
+  refused-no e p = out-no (walk_node (length bytes) bytes (root_ctx symbol addr room) 0 []) e p
 
   -- "A block that doesn't so read is refused with the first fault in reading order": `block_of` is that reading in one
   -- pass, with its faults in the order of document 01.
@@ -145,27 +145,27 @@ module _ (symbol addr room : ℕ) (bytes : List ℕ) where
       (e : ℕ) × (block_of symbol addr room bytes ≡ refused e) × (10 ≤ e) × (e ≤ 14)
   unfolding block_of
   refuses none_reads =
-      from_out (walkNode (length bytes) bytes (rootCtx symbol addr room) 0 []) (λ fs p. none_reads (reads fs p))
+      from_out (walk_node (length bytes) bytes (root_ctx symbol addr room) 0 []) (λ fs p. none_reads (reads fs p))
 
 -- ---- and so does the call, by its contract
 
 module _ (bytes : List ℕ) (symbol addr : ℕ) (entry exit : List ℕ) (r : Listed)
     (L : Lists bytes symbol addr entry exit r) where
   pub call-lists :
-      (R : Reads symbol addr (roomOf entry) bytes) →
+      (R : Reads symbol addr (room_of entry) bytes) →
       (r ≡ record { number = 0; count = length (frames addr symbol R.forest) })
       × (take (3 * r.count) exit ≡ flat (frames addr symbol R.forest))
-  unfolding listing framesOf
+  unfolding listing frames_of
   call-lists R =
-      let e = lists symbol addr (roomOf entry) bytes R in
-      (L.says ∙ ap listing e, L.frames ∙ ap (λ (b : Block). flat (framesOf b)) e)
+      let e = lists symbol addr (room_of entry) bytes R in
+      (L.says ∙ ap listing e, L.frames ∙ ap (λ (b : Block). flat (frames_of b)) e)
 
   pub call-refuses :
-      (Reads symbol addr (roomOf entry) bytes → ⊥) →
+      (Reads symbol addr (room_of entry) bytes → ⊥) →
       (e : ℕ) × (r ≡ record { number = e; count = 0 }) × (10 ≤ e) × (e ≤ 14)
   unfolding listing
   call-refuses none_reads =
-      let o = refuses symbol addr (roomOf entry) bytes none_reads in
+      let o = refuses symbol addr (room_of entry) bytes none_reads in
       (o.0, L.says ∙ ap listing o.1, o.2, o.3)
 
   -- no second answer fits, and no second list of frames

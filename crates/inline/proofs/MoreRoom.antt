@@ -12,9 +12,9 @@ use native.Mathlib.Omega.{arith}
 use borrow.Author.Tests.{le-ltb, ltb-false}
 use Rattle.types.specs.declared.InlineFrame.{InlineFrame}
 use Rattle.reads.specs.Pick.{pick}
-use Rattle.inline.specs.Head.{Raw, end, cut, part, late, node, rawAt}
-use Rattle.inline.specs.Judge.{seenOf, seen_at}
-use Rattle.inline.specs.Skip.{skipList}
+use Rattle.inline.specs.Head.{Raw, end, cut, part, late, node, raw_at}
+use Rattle.inline.specs.Judge.{seen_of, seen_at}
+use Rattle.inline.specs.Skip.{skip_list}
 use Rattle.inline.specs.Walk.{
   Out,
   ended,
@@ -24,16 +24,16 @@ use Rattle.inline.specs.Walk.{
   full,
   put,
   counted,
-  putFrame,
-  frameIn,
-  afterPut,
-  afterJudged,
-  afterSeen,
-  thenSeen,
-  walkList,
-  walkNode,
+  put_frame,
+  frame_in,
+  after_put,
+  after_judged,
+  after_seen,
+  then_seen,
+  walk_list,
+  walk_node,
 }
-use Rattle.inline.specs.Block.{refused, faultNo, blockFrom, block_of}
+use Rattle.inline.specs.Block.{refused, fault_no, block_from, block_of}
 use Rattle.inline.specs.declared.head.Fault.TheVariants as fault
 use Rattle.inline.specs.declared.judge.Ctx.{Ctx}
 use Rattle.inline.specs.declared.judge.Judged.{Judged}
@@ -54,9 +54,9 @@ ctx level addr base room = record { level = level; addr = addr; base = base; roo
 
 module _ (room more : ℕ) (l : room ≤ more) where
   put-room : (level addr base : ℕ) (f : InlineFrame) (acc : List InlineFrame) →
-      (putFrame (ctx level addr base room) f acc ≡ full)
-      ⊎ (putFrame (ctx level addr base room) f acc ≡ putFrame (ctx level addr base more) f acc)
-  unfolding putFrame
+      (put_frame (ctx level addr base room) f acc ≡ full)
+      ⊎ (put_frame (ctx level addr base room) f acc ≡ put_frame (ctx level addr base more) f acc)
+  unfolding put_frame
   put-room level addr base f acc = go (ltb room (length (acc ++ counted f))) refl
     where
       go : (b : Bool) → ltb room (length (acc ++ counted f)) ≡ b →
@@ -71,32 +71,32 @@ module _ (room more : ℕ) (l : room ≤ more) where
   -- an open node, with `few` and `many` for its children
   module _ (few many : ℕ → List InlineFrame → Out)
       (h : (n : ℕ) (acc : List InlineFrame) → Or14 (few n acc) (many n acc)) where
-    same-put : (i : Judged) (p : Put) → Or14 (afterPut few i p) (afterPut many i p)
-    unfolding afterPut
+    same-put : (i : Judged) (p : Put) → Or14 (after_put few i p) (after_put many i p)
+    unfolding after_put
     same-put i full = inl refl
     same-put i (put acc) =
         pick-or (eqb i.kids 0) (past i.next acc) (few i.next acc) (past i.next acc) (many i.next acc)
         (inr refl)
         (h i.next acc)
 
-    open-room : (i : Judged) (p q : Put) → (p ≡ full) ⊎ (p ≡ q) → Or14 (afterPut few i p) (afterPut many i q)
-    unfolding afterPut
-    open-room i p q (inl e) = inl (ap (afterPut few i) e)
+    open-room : (i : Judged) (p q : Put) → (p ≡ full) ⊎ (p ≡ q) → Or14 (after_put few i p) (after_put many i q)
+    unfolding after_put
+    open-room i p q (inl e) = inl (ap (after_put few i) e)
     open-room i p q (inr e) =
-        subst (λ (x : Put). Or14 (afterPut few i x) (afterPut many i q)) (sym e) (same-put i q)
+        subst (λ (x : Put). Or14 (after_put few i x) (after_put many i q)) (sym e) (same-put i q)
 
     -- the rest of a list, after a node
-    same_rest : (o : Out) → Or14 (thenSeen few o) (thenSeen many o)
-    unfolding thenSeen
+    same_rest : (o : Out) → Or14 (then_seen few o) (then_seen many o)
+    unfolding then_seen
     same_rest (ended n acc) = inr refl
     same_rest (past n acc) = h n acc
     same_rest (bad f) = inr refl
 
-    rest-room : (o p : Out) → Or14 o p → Or14 (thenSeen few o) (thenSeen many p)
-    unfolding thenSeen
-    rest-room o p (inl e) = inl (ap (thenSeen few) e)
+    rest-room : (o p : Out) → Or14 o p → Or14 (then_seen few o) (then_seen many p)
+    unfolding then_seen
+    rest-room o p (inl e) = inl (ap (then_seen few) e)
     rest-room o p (inr e) =
-        subst (λ (x : Out). Or14 (thenSeen few x) (thenSeen many p)) (sym e) (same_rest p)
+        subst (λ (x : Out). Or14 (then_seen few x) (then_seen many p)) (sym e) (same_rest p)
 
   -- a judged node, with `reads` for a list of judged nodes
   module _ (reads : Ctx → ℕ → List InlineFrame → Out) (skips : ℕ → Passed)
@@ -104,9 +104,9 @@ module _ (room more : ℕ) (l : room ≤ more) where
       Or14 (reads (ctx level addr base room) n acc) (reads (ctx level addr base more) n acc)) where
     seen-room : (level addr base : ℕ) (acc : List InlineFrame) (x : Seen) →
         Or14
-        (afterSeen reads skips (ctx level addr base room) acc x)
-        (afterSeen reads skips (ctx level addr base more) acc x)
-    unfolding afterSeen afterJudged
+        (after_seen reads skips (ctx level addr base room) acc x)
+        (after_seen reads skips (ctx level addr base more) acc x)
+    unfolding after_seen after_judged
     seen-room level addr base acc (seen.End n) = inr refl
     seen-room level addr base acc (seen.Bad f) = inr refl
     seen-room level addr base acc (seen.Node i) =
@@ -116,13 +116,13 @@ module _ (room more : ℕ) (l : room ≤ more) where
         (reads (ctx (level + 1) addr i.base more))
         (h (level + 1) addr i.base)
         i _ _
-        (put-room level addr base (frameIn i) acc))
+        (put-room level addr base (frame_in i) acc))
         (inr refl)
 
   -- a head is judged without the room
   same_seen : (level addr base : ℕ) (x : Raw) →
-      seenOf (ctx level addr base room) x ≡ seenOf (ctx level addr base more) x
-  unfolding seenOf
+      seen_of (ctx level addr base room) x ≡ seen_of (ctx level addr base more) x
+  unfolding seen_of
   same_seen level addr base (end n) = refl
   same_seen level addr base (cut c) = refl
   same_seen level addr base (part c rs) = refl
@@ -133,30 +133,30 @@ module _ (room more : ℕ) (l : room ≤ more) where
   node_by :
       (fuel : ℕ) (s : List ℕ)
       (h : (level addr base at : ℕ) (acc : List InlineFrame) →
-      Or14 (walkList fuel s (ctx level addr base room) at acc) (walkList fuel s (ctx level addr base more) at acc))
+      Or14 (walk_list fuel s (ctx level addr base room) at acc) (walk_list fuel s (ctx level addr base more) at acc))
       (level addr base at : ℕ) (acc : List InlineFrame) →
-      Or14 (walkNode fuel s (ctx level addr base room) at acc) (walkNode fuel s (ctx level addr base more) at acc)
-  unfolding walkNode seen_at
+      Or14 (walk_node fuel s (ctx level addr base room) at acc) (walk_node fuel s (ctx level addr base more) at acc)
+  unfolding walk_node seen_at
   node_by fuel s h level addr base at acc =
       subst
       (λ (x : Seen). Or14
-      (walkNode fuel s (ctx level addr base room) at acc)
-      (afterSeen (walkList fuel s) (skipList fuel s (level + 1)) (ctx level addr base more) acc x))
-      (same_seen level addr base (rawAt s at))
-      (seen-room (walkList fuel s) (skipList fuel s (level + 1)) h level addr base acc
+      (walk_node fuel s (ctx level addr base room) at acc)
+      (after_seen (walk_list fuel s) (skip_list fuel s (level + 1)) (ctx level addr base more) acc x))
+      (same_seen level addr base (raw_at s at))
+      (seen-room (walk_list fuel s) (skip_list fuel s (level + 1)) h level addr base acc
       (seen_at s (ctx level addr base room) at))
 
   list-room : (fuel : ℕ) (s : List ℕ) (level addr base at : ℕ) (acc : List InlineFrame) →
-      Or14 (walkList fuel s (ctx level addr base room) at acc) (walkList fuel s (ctx level addr base more) at acc)
-  unfolding walkList walkNode
+      Or14 (walk_list fuel s (ctx level addr base room) at acc) (walk_list fuel s (ctx level addr base more) at acc)
+  unfolding walk_list walk_node
   list-room zero s level addr base at acc = inr refl
   list-room (suc fuel) s level addr base at acc =
       rest-room
-      (walkList fuel s (ctx level addr base room))
-      (walkList fuel s (ctx level addr base more))
+      (walk_list fuel s (ctx level addr base room))
+      (walk_list fuel s (ctx level addr base more))
       (list-room fuel s level addr base)
-      (walkNode fuel s (ctx level addr base room) at acc)
-      (walkNode fuel s (ctx level addr base more) at acc)
+      (walk_node fuel s (ctx level addr base room) at acc)
+      (walk_node fuel s (ctx level addr base more) at acc)
       (node_by fuel s (list-room fuel s) level addr base at acc)
 
   -- a block
@@ -164,10 +164,10 @@ module _ (room more : ℕ) (l : room ≤ more) where
       (symbol addr : ℕ) (bytes : List ℕ) →
       (block_of symbol addr room bytes ≡ refused 14)
       ⊎ (block_of symbol addr room bytes ≡ block_of symbol addr more bytes)
-  unfolding block_of blockFrom faultNo
+  unfolding block_of block_from fault_no
   block_more symbol addr bytes =
       ⊎_elim
-      (λ (e : walkNode (length bytes) bytes (ctx 1 addr symbol room) 0 [] ≡ bad fault.Room). inl (ap blockFrom e))
-      (λ (e : walkNode (length bytes) bytes (ctx 1 addr symbol room) 0 []
-      ≡ walkNode (length bytes) bytes (ctx 1 addr symbol more) 0 []). inr (ap blockFrom e))
+      (λ (e : walk_node (length bytes) bytes (ctx 1 addr symbol room) 0 [] ≡ bad fault.Room). inl (ap block_from e))
+      (λ (e : walk_node (length bytes) bytes (ctx 1 addr symbol room) 0 []
+      ≡ walk_node (length bytes) bytes (ctx 1 addr symbol more) 0 []). inr (ap block_from e))
       (node_by (length bytes) bytes (list-room (length bytes) bytes) 1 addr symbol 0 [])

@@ -7,12 +7,12 @@ use mathlib.Core.Path.{◌≡◌, refl, subst}
 use lib.ListN.{length}
 use native.Mathlib.Omega.{arith}
 use Rattle.reads.specs.Pick.{pick}
-use Rattle.reads.specs.Bytes.{Fixed, value, unread, leAt}
+use Rattle.reads.specs.Bytes.{Fixed, value, unread, le_at}
 use Rattle.reads.specs.Answers.{as8, as32, u8_at, u32_at}
 use Rattle.reads.specs.declared.Read8.TheVariants as r8
 use Rattle.reads.specs.declared.Read32.TheVariants as r32
 use Rattle.reads.proofs.Places.{within}
-use Rattle.leb128.specs.Answers.{unsignedAt}
+use Rattle.leb128.specs.Answers.{unsigned_at}
 use Rattle.leb128.specs.declared.Unsigned.{Unsigned}
 use Rattle.leb128.specs.declared.Unsigned.TheVariants as u
 use Rattle.leb128.proofs.Taken.{unsigned-next}
@@ -43,9 +43,9 @@ NumGoes at len (num.Bad c) = Unit {0}
 module _ (s : List ℕ) (at : ℕ) where
   pub num-goes : NumGoes at (length s) (num_at s at)
   unfolding num_at
-  num-goes = go (unsignedAt s at) refl
+  num-goes = go (unsigned_at s at) refl
     where
-      go : (x : Unsigned) → unsignedAt s at ≡ x → NumGoes at (length s) (num_of x)
+      go : (x : Unsigned) → unsigned_at s at ≡ x → NumGoes at (length s) (num_of x)
       go (u.Value v n) e = unsigned-next s at v n e
       go u.Short e = tt
       go u.Wide e = tt
@@ -56,17 +56,17 @@ module _ (s : List ℕ) (at : ℕ) where
   -- a byte that was read is one of the bytes
   pub byte-within : (v : ℕ) → u8_at s at ≡ r8.Value v → at + 1 ≤ length s
   unfolding u8_at
-  byte-within v e = go (leAt 1 s at) refl e
+  byte-within v e = go (le_at 1 s at) refl e
     where
-      go : (x : Fixed) → leAt 1 s at ≡ x → as8 x ≡ r8.Value v → at + 1 ≤ length s
+      go : (x : Fixed) → le_at 1 s at ≡ x → as8 x ≡ r8.Value v → at + 1 ≤ length s
       go (value w) p q = within s at 1 w (omega arith) p
       go unread p q = never (cc)
 
   -- and so are four bytes
   pub word-within : (v : ℕ) → u32_at s at ≡ r32.Value v → at + 4 ≤ length s
   unfolding u32_at
-  word-within v e = go (leAt 4 s at) refl e
+  word-within v e = go (le_at 4 s at) refl e
     where
-      go : (x : Fixed) → leAt 4 s at ≡ x → as32 x ≡ r32.Value v → at + 4 ≤ length s
+      go : (x : Fixed) → le_at 4 s at ≡ x → as32 x ≡ r32.Value v → at + 4 ≤ length s
       go (value w) p q = within s at 4 w (omega arith) p
       go unread p q = never (cc)

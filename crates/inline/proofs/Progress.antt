@@ -18,11 +18,11 @@ use Rattle.inline.specs.Head.{
   Ranges,
   all,
   some,
-  rangesAt,
-  withLine,
-  withFile,
-  withName,
-  withKids,
+  ranges_at,
+  with_line,
+  with_file,
+  with_name,
+  with_kids,
   tail_at,
   Raw,
   end,
@@ -30,16 +30,16 @@ use Rattle.inline.specs.Head.{
   part,
   late,
   node,
-  withTail,
-  withRanges,
-  withCount,
-  rawAt,
-  wholeHead,
+  with_tail,
+  with_ranges,
+  with_count,
+  raw_at,
+  whole_head,
   head_of,
-  headAt,
+  head_at,
 }
-use Rattle.inline.specs.Fits.{anyLarge}
-use Rattle.inline.specs.Judge.{rangesFit, fileFits, judgedOf, seenOf, seen_at}
+use Rattle.inline.specs.Fits.{any_large}
+use Rattle.inline.specs.Judge.{ranges_fit, file_fits, judged_of, seen_of, seen_at}
 use Rattle.inline.specs.declared.head.Fault.TheVariants as fault
 use Rattle.inline.specs.declared.head.Num.{Num}
 use Rattle.inline.specs.declared.head.Num.TheVariants as num
@@ -63,27 +63,27 @@ TailGoes at len (tail.Late file k) = Unit {0}
 TailGoes at len (tail.Whole t) = (at < t.next) × (t.next ≤ len)
 
 line-goes :
-    (at m len kids name file : ℕ) (r : Num) → at ≤ m → NumGoes m len r → TailGoes at len (withLine kids name file r)
-unfolding withLine
+    (at m len kids name file : ℕ) (r : Num) → at ≤ m → NumGoes m len r → TailGoes at len (with_line kids name file r)
+unfolding with_line
 line-goes at m len kids name file (num.Value v n) le g = (omega (arith, g.0), g.1)
 line-goes at m len kids name file (num.Bad k) le g = tt
 
 file-goes :
     (s : List ℕ) (at m kids name : ℕ) (r : Num) → at ≤ m → NumGoes m (length s) r →
-    TailGoes at (length s) (withFile s kids name r)
-unfolding withFile
+    TailGoes at (length s) (with_file s kids name r)
+unfolding with_file
 file-goes s at m kids name (num.Value v n) le g =
     line-goes at n (length s) kids name v (num_at s n) (omega (arith, g.0)) (num-goes s n)
 file-goes s at m kids name (num.Bad k) le g = tt
 
-name-goes : (s : List ℕ) (at kids : ℕ) (r : Read32) → TailGoes at (length s) (withName s at kids r)
-unfolding withName
+name-goes : (s : List ℕ) (at kids : ℕ) (r : Read32) → TailGoes at (length s) (with_name s at kids r)
+unfolding with_name
 name-goes s at kids (r32.Value name) =
     file-goes s at (at + 5) kids name (num_at s (at + 5)) (omega arith) (num-goes s (at + 5))
 name-goes s at kids r32.Unread = tt
 
-kids-goes : (s : List ℕ) (at : ℕ) (r : Read8) → TailGoes at (length s) (withKids s at r)
-unfolding withKids
+kids-goes : (s : List ℕ) (at : ℕ) (r : Read8) → TailGoes at (length s) (with_kids s at r)
+unfolding with_kids
 kids-goes s at (r8.Value kids) = name-goes s at kids (u32_at s (at + 1))
 kids-goes s at r8.Unread = tt
 
@@ -102,30 +102,30 @@ RawGoes at len (node w) = (at < w.next) × (w.next ≤ len)
 
 with-tail-goes :
     (at m len first : ℕ) (rs : List Range) (T : Tail) → at ≤ m → TailGoes m len T →
-    RawGoes at len (withTail first rs T)
-unfolding withTail
+    RawGoes at len (with_tail first rs T)
+unfolding with_tail
 with-tail-goes at m len first rs (tail.Cut k) le g = tt
 with-tail-goes at m len first rs (tail.Late file k) le g = tt
 with-tail-goes at m len first rs (tail.Whole t) le g = (omega (arith, g.0), g.1)
 
 with-ranges-goes :
     (s : List ℕ) (at m first : ℕ) (G : Ranges) → at ≤ m → RangesGoes m (length s) G →
-    RawGoes at (length s) (withRanges s first G)
-unfolding withRanges
+    RawGoes at (length s) (with_ranges s first G)
+unfolding with_ranges
 with-ranges-goes s at m first (all n rs) le g =
     with-tail-goes at n (length s) first rs (tail_at s n) (omega (arith, g.0)) (tail-goes s n)
 with-ranges-goes s at m first (some k rs) le g = tt
 
-count-goes : (s : List ℕ) (at : ℕ) (r : Num) → NumGoes at (length s) r → RawGoes at (length s) (withCount s r)
-unfolding withCount
+count-goes : (s : List ℕ) (at : ℕ) (r : Num) → NumGoes at (length s) r → RawGoes at (length s) (with_count s r)
+unfolding with_count
 count-goes s at (num.Value count n) g =
-    pick-has (RawGoes at (length s)) (eqb count 0) (end n) (withRanges s n (rangesAt count s n))
+    pick-has (RawGoes at (length s)) (eqb count 0) (end n) (with_ranges s n (ranges_at count s n))
     (λ _. g)
-    (λ _. with-ranges-goes s at n n (rangesAt count s n) (omega (arith, g.0)) (ranges-goes count s n g.1))
+    (λ _. with-ranges-goes s at n n (ranges_at count s n) (omega (arith, g.0)) (ranges-goes count s n g.1))
 count-goes s at (num.Bad k) g = tt
 
-pub raw-goes : (s : List ℕ) (at : ℕ) → RawGoes at (length s) (rawAt s at)
-unfolding rawAt
+pub raw-goes : (s : List ℕ) (at : ℕ) → RawGoes at (length s) (raw_at s at)
+unfolding raw_at
 raw-goes s at = count-goes s at (num_at s at) (num-goes s at)
 
 -- ---- a head as `head_at` answers it
@@ -146,14 +146,14 @@ head-of-goes level at len (late k rs file) g =
     pick-has (HeadGoes level at len) (ltb 64 level) (head.Bad fault.Level) (head.Bad (fault.Unread k)) (λ _. tt)
     (λ _. tt)
 head-of-goes level at len (node w) g =
-    pick-has (HeadGoes level at len) (ltb 64 level) (head.Bad fault.Level) (wholeHead w) (λ _. tt)
+    pick-has (HeadGoes level at len) (ltb 64 level) (head.Bad fault.Level) (whole_head w) (λ _. tt)
     (λ e. (g.0, g.1, ltb-false 64 level e))
 
-module _ (s : List ℕ) (level at : ℕ) (h : Head) (H : h ≡ headAt s level at) where
+module _ (s : List ℕ) (level at : ℕ) (h : Head) (H : h ≡ head_at s level at) where
   head-goes : HeadGoes level at (length s) h
-  unfolding headAt
+  unfolding head_at
   head-goes =
-      subst (HeadGoes level at (length s)) (sym H) (head-of-goes level at (length s) (rawAt s at) (raw-goes s at))
+      subst (HeadGoes level at (length s)) (sym H) (head-of-goes level at (length s) (raw_at s at) (raw-goes s at))
 
   pub head-end-next : (n : ℕ) → h ≡ head.End n → (at < n) × (n ≤ length s)
   head-end-next n e = subst (HeadGoes level at (length s)) e head-goes
@@ -171,34 +171,34 @@ SeenGoes level at len (seen.Node i) = (at < i.next) × (i.next ≤ len) × (leve
 -- what is no fault has what both tests leave
 fit-goes :
     (c : Ctx) (at len : ℕ) (rs : List Range) (x : Seen) → (c.level ≤ 64 → SeenGoes c.level at len x) →
-    SeenGoes c.level at len (rangesFit seen.Bad c rs x)
+    SeenGoes c.level at len (ranges_fit seen.Bad c rs x)
 fit-goes c at len rs x g =
     pick-has (SeenGoes c.level at len) (ltb 64 c.level) (seen.Bad fault.Level) _ (λ _. tt)
-    (λ e. pick-has (SeenGoes c.level at len) (anyLarge c.base rs) (seen.Bad fault.Sum) x (λ _. tt)
+    (λ e. pick-has (SeenGoes c.level at len) (any_large c.base rs) (seen.Bad fault.Sum) x (λ _. tt)
     (λ _. g (ltb-false 64 c.level e)))
 
 file-fit-goes :
-    (level at len file : ℕ) (x : Seen) → SeenGoes level at len x → SeenGoes level at len (fileFits seen.Bad file x)
+    (level at len file : ℕ) (x : Seen) → SeenGoes level at len x → SeenGoes level at len (file_fits seen.Bad file x)
 file-fit-goes level at len file x g =
     pick-has (SeenGoes level at len) (ltb 4294967295 file) (seen.Bad fault.CallFile) x (λ _. tt) (λ _. g)
 
-seen-of-goes : (c : Ctx) (at len : ℕ) (R : Raw) → RawGoes at len R → SeenGoes c.level at len (seenOf c R)
-unfolding seenOf
+seen-of-goes : (c : Ctx) (at len : ℕ) (R : Raw) → RawGoes at len R → SeenGoes c.level at len (seen_of c R)
+unfolding seen_of
 seen-of-goes c at len (end n) g = g
 seen-of-goes c at len (cut k) g = tt
 seen-of-goes c at len (part k rs) g = fit-goes c at len rs (seen.Bad (fault.Unread k)) (λ _. tt)
 seen-of-goes c at len (late k rs file) g =
-    fit-goes c at len rs (fileFits seen.Bad file (seen.Bad (fault.Unread k)))
+    fit-goes c at len rs (file_fits seen.Bad file (seen.Bad (fault.Unread k)))
     (λ _. file-fit-goes c.level at len file (seen.Bad (fault.Unread k)) tt)
 seen-of-goes c at len (node w) g =
-    fit-goes c at len w.self.ranges (fileFits seen.Bad w.self.file (seen.Node (judgedOf c w)))
-    (λ l. file-fit-goes c.level at len w.self.file (seen.Node (judgedOf c w)) (g.0, g.1, l))
+    fit-goes c at len w.self.ranges (file_fits seen.Bad w.self.file (seen.Node (judged_of c w)))
+    (λ l. file-fit-goes c.level at len w.self.file (seen.Node (judged_of c w)) (g.0, g.1, l))
 
 module _ (s : List ℕ) (c : Ctx) (at : ℕ) (h : Seen) (H : h ≡ seen_at s c at) where
   seen-goes : SeenGoes c.level at (length s) h
   unfolding seen_at
   seen-goes =
-      subst (SeenGoes c.level at (length s)) (sym H) (seen-of-goes c at (length s) (rawAt s at) (raw-goes s at))
+      subst (SeenGoes c.level at (length s)) (sym H) (seen-of-goes c at (length s) (raw_at s at) (raw-goes s at))
 
   pub seen-end-next : (n : ℕ) → h ≡ seen.End n → (at < n) × (n ≤ length s)
   seen-end-next n e = subst (SeenGoes c.level at (length s)) e seen-goes

@@ -12,15 +12,15 @@ use Rattle.inline.specs.Head.{
   One,
   one,
   unread,
-  withSize,
-  withOff,
-  rangeAt,
+  with_size,
+  with_off,
+  range_at,
   Ranges,
   all,
   some,
-  andRange,
-  thenRange,
-  rangesAt,
+  and_range,
+  then_range,
+  ranges_at,
   place_of,
 }
 use Rattle.inline.specs.declared.head.Cause.{Cause}
@@ -32,22 +32,22 @@ use Rattle.inline.proofs.Numbers.{NumGoes, num-goes, num-next}
 -- ---- one range: its offset, and then its size
 
 module _ (s : List ℕ) (at : ℕ) (a : Num) (A : a ≡ num_at s at) where
-  pub no-off : (c : Cause) → a ≡ num.Bad c → rangeAt s at ≡ unread c
-  unfolding rangeAt withOff
-  no-off c p = ap (withOff s) (sym A ∙ p)
+  pub no-off : (c : Cause) → a ≡ num.Bad c → range_at s at ≡ unread c
+  unfolding range_at with_off
+  no-off c p = ap (with_off s) (sym A ∙ p)
 
   module _ (off m : ℕ) (p : a ≡ num.Value off m) (b : Num) (B : b ≡ num_at s m) where
-    with-off : rangeAt s at ≡ withSize off b
-    unfolding rangeAt withOff
-    with-off = ap (withOff s) (sym A ∙ p) ∙ ap (withSize off) (sym B)
+    with-off : range_at s at ≡ with_size off b
+    unfolding range_at with_off
+    with-off = ap (with_off s) (sym A ∙ p) ∙ ap (with_size off) (sym B)
 
-    pub no_size : (c : Cause) → b ≡ num.Bad c → rangeAt s at ≡ unread c
-    unfolding withSize
-    no_size c q = with-off ∙ ap (withSize off) q
+    pub no_size : (c : Cause) → b ≡ num.Bad c → range_at s at ≡ unread c
+    unfolding with_size
+    no_size c q = with-off ∙ ap (with_size off) q
 
-    pub one-is : (size n : ℕ) → b ≡ num.Value size n → rangeAt s at ≡ one (record { off = off; size = size }) n
-    unfolding withSize
-    one-is size n q = with-off ∙ ap (withSize off) q
+    pub one-is : (size n : ℕ) → b ≡ num.Value size n → range_at s at ≡ one (record { off = off; size = size }) n
+    unfolding with_size
+    one-is size n q = with-off ∙ ap (with_size off) q
 
     pub one-next : (size n : ℕ) → b ≡ num.Value size n → (at < n) × (n ≤ length s)
     one-next size n q =
@@ -65,66 +65,66 @@ abbrev pub RangesGoes : ℕ → ℕ → Ranges → Type 0
 RangesGoes at len (all n rs) = (at ≤ n) × (n ≤ len)
 RangesGoes at len (some c rs) = Unit {0}
 
-size-goes : (at m len off : ℕ) (r : Num) → at ≤ m → NumGoes m len r → OneGoes at len (withSize off r)
-unfolding withSize
+size-goes : (at m len off : ℕ) (r : Num) → at ≤ m → NumGoes m len r → OneGoes at len (with_size off r)
+unfolding with_size
 size-goes at m len off (num.Value v n) le g = (omega (arith, g.0), g.1)
 size-goes at m len off (num.Bad c) le g = tt
 
-off-goes : (s : List ℕ) (at : ℕ) (r : Num) → NumGoes at (length s) r → OneGoes at (length s) (withOff s r)
-unfolding withOff
+off-goes : (s : List ℕ) (at : ℕ) (r : Num) → NumGoes at (length s) r → OneGoes at (length s) (with_off s r)
+unfolding with_off
 off-goes s at (num.Value v n) g = size-goes at n (length s) v (num_at s n) (omega (arith, g.0)) (num-goes s n)
 off-goes s at (num.Bad c) g = tt
 
-pub range-goes : (s : List ℕ) (at : ℕ) → OneGoes at (length s) (rangeAt s at)
-unfolding rangeAt
+pub range-goes : (s : List ℕ) (at : ℕ) → OneGoes at (length s) (range_at s at)
+unfolding range_at
 range-goes s at = off-goes s at (num_at s at) (num-goes s at)
 
 and-goes :
-    (at m len : ℕ) (r : Range) (G : Ranges) → at ≤ m → RangesGoes m len G → RangesGoes at len (andRange r G)
-unfolding andRange
+    (at m len : ℕ) (r : Range) (G : Ranges) → at ≤ m → RangesGoes m len G → RangesGoes at len (and_range r G)
+unfolding and_range
 and-goes at m len r (all n rs) le g = (omega (arith, g.0), g.1)
 and-goes at m len r (some c rs) le g = tt
 
 then-goes :
     (s : List ℕ) (at : ℕ) (go : ℕ → Ranges) → ((n : ℕ) → n ≤ length s → RangesGoes n (length s) (go n)) →
-    (O : One) → OneGoes at (length s) O → RangesGoes at (length s) (thenRange go O)
-unfolding thenRange
+    (O : One) → OneGoes at (length s) O → RangesGoes at (length s) (then_range go O)
+unfolding then_range
 then-goes s at go ih (one r n) g = and-goes at n (length s) r (go n) (omega (arith, g.0)) (ih n g.1)
 then-goes s at go ih (unread c) g = tt
 
-pub ranges-goes : (count : ℕ) (s : List ℕ) (at : ℕ) → at ≤ length s → RangesGoes at (length s) (rangesAt count s at)
-unfolding rangesAt
+pub ranges-goes : (count : ℕ) (s : List ℕ) (at : ℕ) → at ≤ length s → RangesGoes at (length s) (ranges_at count s at)
+unfolding ranges_at
 ranges-goes zero s at le = (omega arith, le)
-ranges-goes (suc c) s at le = then-goes s at (rangesAt c s) (ranges-goes c s) (rangeAt s at) (range-goes s at)
+ranges-goes (suc c) s at le = then-goes s at (ranges_at c s) (ranges-goes c s) (range_at s at) (range-goes s at)
 
 -- ---- all ranges, passed over
 
-place-and : (r : Range) (G : Ranges) → place_of (andRange r G) ≡ place_of G
-unfolding place_of andRange
+place-and : (r : Range) (G : Ranges) → place_of (and_range r G) ≡ place_of G
+unfolding place_of and_range
 place-and r (all n rs) = refl
 place-and r (some c rs) = refl
 
-pub place_none : (s : List ℕ) (left to : ℕ) → left ≡ 0 → place.At to ≡ place_of (rangesAt left s to)
-unfolding rangesAt place_of
+pub place_none : (s : List ℕ) (left to : ℕ) → left ≡ 0 → place.At to ≡ place_of (ranges_at left s to)
+unfolding ranges_at place_of
 place_none s zero to z = refl
 place_none s (suc k) to z = absurd (omega arith)
 
 pub place-bad :
-    (s : List ℕ) (left to : ℕ) → 0 < left → (c : Cause) → rangeAt s to ≡ unread c →
-    place.Bad c ≡ place_of (rangesAt left s to)
-unfolding rangesAt place_of thenRange
+    (s : List ℕ) (left to : ℕ) → 0 < left → (c : Cause) → range_at s to ≡ unread c →
+    place.Bad c ≡ place_of (ranges_at left s to)
+unfolding ranges_at place_of then_range
 place-bad s zero to l c e = absurd (omega arith)
-place-bad s (suc k) to l c e = sym (ap (λ (O : One). place_of (thenRange (rangesAt k s) O)) e)
+place-bad s (suc k) to l c e = sym (ap (λ (O : One). place_of (then_range (ranges_at k s) O)) e)
 
 pub place-one :
-    (s : List ℕ) (left to : ℕ) → 0 < left → (r : Range) (n : ℕ) → rangeAt s to ≡ one r n →
-    place_of (rangesAt left s to) ≡ place_of (rangesAt (left - 1) s n)
-unfolding rangesAt thenRange
+    (s : List ℕ) (left to : ℕ) → 0 < left → (r : Range) (n : ℕ) → range_at s to ≡ one r n →
+    place_of (ranges_at left s to) ≡ place_of (ranges_at (left - 1) s n)
+unfolding ranges_at then_range
 place-one s zero to l r n e = absurd (omega arith)
 place-one s (suc k) to l r n e =
-    ap (λ (O : One). place_of (thenRange (rangesAt k s) O)) e
-    ∙ place-and r (rangesAt k s n)
-    ∙ ap (λ (j : ℕ). place_of (rangesAt j s n)) (sym (sub-one (suc k)))
+    ap (λ (O : One). place_of (then_range (ranges_at k s) O)) e
+    ∙ place-and r (ranges_at k s n)
+    ∙ ap (λ (j : ℕ). place_of (ranges_at j s n)) (sym (sub-one (suc k)))
 
 -- ---- as many as the count says
 
@@ -132,19 +132,19 @@ abbrev pub Counted : ℕ → Ranges → Type 0
 Counted count (all n rs) = length rs ≡ count
 Counted count (some c rs) = Unit {0}
 
-counted-and : (count : ℕ) (r : Range) (G : Ranges) → Counted count G → Counted (suc count) (andRange r G)
-unfolding andRange
+counted-and : (count : ℕ) (r : Range) (G : Ranges) → Counted count G → Counted (suc count) (and_range r G)
+unfolding and_range
 counted-and count r (all n rs) g = ap suc g
 counted-and count r (some c rs) g = tt
 
 counted-then :
     (count : ℕ) (go : ℕ → Ranges) → ((n : ℕ) → Counted count (go n)) → (O : One) →
-    Counted (suc count) (thenRange go O)
-unfolding thenRange
+    Counted (suc count) (then_range go O)
+unfolding then_range
 counted-then count go ih (one r n) = counted-and count r (go n) (ih n)
 counted-then count go ih (unread c) = tt
 
-pub ranges-counted : (count : ℕ) (s : List ℕ) (at : ℕ) → Counted count (rangesAt count s at)
-unfolding rangesAt
+pub ranges-counted : (count : ℕ) (s : List ℕ) (at : ℕ) → Counted count (ranges_at count s at)
+unfolding ranges_at
 ranges-counted zero s at = refl
-ranges-counted (suc k) s at = counted-then k (rangesAt k s) (ranges-counted k s) (rangeAt s at)
+ranges-counted (suc k) s at = counted-then k (ranges_at k s) (ranges-counted k s) (range_at s at)

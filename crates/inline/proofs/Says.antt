@@ -11,10 +11,10 @@ use borrow.Author.Tests.{le-ltb, ltb-false}
 use Rattle.types.specs.declared.InlineFrame.{InlineFrame}
 use Rattle.reads.specs.Pick.{pick}
 use Rattle.inline.specs.Tree.{Node, Forest, none, tree}
-use Rattle.inline.specs.Frames.{anyIn, childBase, frame_of, named, frames}
-use Rattle.inline.specs.Fits.{anyLarge}
-use Rattle.inline.specs.Walk.{full, put, counted, putFrame}
-use Rattle.inline.specs.Said.{Said, fine, wrong, deepIn, and_then, saidPut, belowNode, sayForest}
+use Rattle.inline.specs.Frames.{any_in, child_base, frame_of, named, frames}
+use Rattle.inline.specs.Fits.{any_large}
+use Rattle.inline.specs.Walk.{full, put, counted, put_frame}
+use Rattle.inline.specs.Said.{Said, fine, wrong, deep_in, and_then, said_put, below_node, say_forest}
 use Rattle.inline.specs.Reads.{EachJudged}
 use Rattle.inline.specs.declared.head.Fault.{Fault}
 use Rattle.inline.specs.declared.head.Fault.TheVariants as fault
@@ -26,29 +26,29 @@ use Rattle.inline.proofs.Conditions.{Levels, levels-fit, levels_sound, Sums, Fil
 
 put-fine :
     (c : Ctx) (f : InlineFrame) (acc : List InlineFrame) → length (acc ++ counted f) ≤ c.room →
-    saidPut (putFrame c f acc) ≡ fine (acc ++ counted f)
-unfolding putFrame saidPut
+    said_put (put_frame c f acc) ≡ fine (acc ++ counted f)
+unfolding put_frame said_put
 put-fine c f acc le = rw (le-ltb c.room (length (acc ++ counted f)) le)
 
 -- one node: its own frame and those below it
 node-frames :
     (c : Ctx) (self : Node) (kids : Forest) (acc : List InlineFrame) (w : Bool) →
-    (w ≡ true → (a : List InlineFrame) → length (a ++ frames c.addr (childBase c.base self) kids) ≤ c.room →
-    sayForest (belowNode c self) kids a ≡ fine (a ++ frames c.addr (childBase c.base self) kids)) →
-    deepIn (c.level + 1) kids ≡ false →
-    length (acc ++ pick w (named self ++ frames c.addr (childBase c.base self) kids) []) ≤ c.room →
+    (w ≡ true → (a : List InlineFrame) → length (a ++ frames c.addr (child_base c.base self) kids) ≤ c.room →
+    say_forest (below_node c self) kids a ≡ fine (a ++ frames c.addr (child_base c.base self) kids)) →
+    deep_in (c.level + 1) kids ≡ false →
+    length (acc ++ pick w (named self ++ frames c.addr (child_base c.base self) kids) []) ≤ c.room →
     pick w
-    (and_then (sayForest (belowNode c self) kids) (saidPut (putFrame c (frame_of self) acc)))
-    (pick (deepIn (c.level + 1) kids) (wrong fault.Level) (fine acc))
-    ≡ fine (acc ++ pick w (named self ++ frames c.addr (childBase c.base self) kids) [])
+    (and_then (say_forest (below_node c self) kids) (said_put (put_frame c (frame_of self) acc)))
+    (pick (deep_in (c.level + 1) kids) (wrong fault.Level) (fine acc))
+    ≡ fine (acc ++ pick w (named self ++ frames c.addr (child_base c.base self) kids) [])
 unfolding and_then
 node-frames c self kids acc true ih d le =
-    let below = frames c.addr (childBase c.base self) kids in
+    let below = frames c.addr (child_base c.base self) kids in
     let l₁ = length-append acc (named self ++ below) in
     let l₂ = length-append (named self) below in
     let l₃ = length-append acc (named self) in
     let l₄ = length-append (acc ++ named self) below in
-    ap (and_then (sayForest (belowNode c self) kids)) (put-fine c (frame_of self) acc (omega arith))
+    ap (and_then (say_forest (below_node c self) kids)) (put-fine c (frame_of self) acc (omega arith))
     ∙ ih refl (acc ++ named self) (omega arith)
     ∙ ap fine (append_assoc acc (named self) below)
 node-frames c self kids acc false ih d le = rw d (ap fine (sym (append-nil acc)))
@@ -56,12 +56,12 @@ node-frames c self kids acc false ih d le = rw d (ap fine (sym (append-nil acc))
 pub say-frames :
     (t : Forest) (c : Ctx) (acc : List InlineFrame) → Sums c.addr c.base t → Files c.addr c.base t →
     Levels c.level t → length (acc ++ frames c.addr c.base t) ≤ c.room →
-    sayForest c t acc ≡ fine (acc ++ frames c.addr c.base t)
-unfolding sayForest frames EachJudged Levels and_then
+    say_forest c t acc ≡ fine (acc ++ frames c.addr c.base t)
+unfolding say_forest frames EachJudged Levels and_then
 say-frames none c acc S F L le = ap fine (sym (append-nil acc))
 say-frames (tree self kids rest) c acc S F L le =
-    let w = anyIn c.addr c.base self.ranges in
-    let x = pick w (named self ++ frames c.addr (childBase c.base self) kids) [] in
+    let w = any_in c.addr c.base self.ranges in
+    let x = pick w (named self ++ frames c.addr (child_base c.base self) kids) [] in
     let l₁ = length-append acc (x ++ frames c.addr c.base rest) in
     let l₂ = length-append x (frames c.addr c.base rest) in
     let l₃ = length-append acc x in
@@ -71,8 +71,8 @@ say-frames (tree self kids rest) c acc S F L le =
       S.0,
       le-ltb 4294967295 self.file F.0,
     )
-    (ap (and_then (sayForest c rest))
-    (node-frames c self kids acc w (λ h a. say-frames kids (belowNode c self) a (S.1 h) (F.1 h) L.1)
+    (ap (and_then (say_forest c rest))
+    (node-frames c self kids acc w (λ h a. say-frames kids (below_node c self) a (S.1 h) (F.1 h) L.1)
     (levels-fit (c.level + 1) kids L.1) (omega arith))
     ∙ say-frames rest c (acc ++ x) S.2 F.2 L.2 (omega arith)
     ∙ ap fine (append_assoc acc x (frames c.addr c.base rest)))
@@ -88,14 +88,14 @@ pub record Fine (room : ℕ) (acc fs all : List InlineFrame) : Type 0 where
   pub few : length all ≤ room
 
 put-sound :
-    (c : Ctx) (f : InlineFrame) (acc b : List InlineFrame) → saidPut (putFrame c f acc) ≡ fine b →
+    (c : Ctx) (f : InlineFrame) (acc b : List InlineFrame) → said_put (put_frame c f acc) ≡ fine b →
     Fine c.room acc (counted f) b
-unfolding putFrame saidPut
+unfolding put_frame said_put
 put-sound c f acc b p = go (ltb c.room (length (acc ++ counted f))) refl p
   where
     go :
         (t : Bool) → ltb c.room (length (acc ++ counted f)) ≡ t →
-        saidPut (pick t full (put (acc ++ counted f))) ≡ fine b → Fine c.room acc (counted f) b
+        said_put (pick t full (put (acc ++ counted f))) ≡ fine b → Fine c.room acc (counted f) b
     go true h q = no-fine q
     go false h q =
         let e : b ≡ acc ++ counted f = cc in
@@ -138,23 +138,23 @@ deep-sound false acc b p = (refl, (cc))
 
 -- one node, once its own tests are passed
 record NodeSound (c : Ctx) (self : Node) (kids : Forest) (w : Bool) (acc b : List InlineFrame) : Type 0 where
-  sums : w ≡ true → Sums c.addr (childBase c.base self) kids
-  files : w ≡ true → Files c.addr (childBase c.base self) kids
+  sums : w ≡ true → Sums c.addr (child_base c.base self) kids
+  files : w ≡ true → Files c.addr (child_base c.base self) kids
   levels : Levels (c.level + 1) kids
-  frames-are : Fine c.room acc (pick w (named self ++ frames c.addr (childBase c.base self) kids) []) b
+  frames-are : Fine c.room acc (pick w (named self ++ frames c.addr (child_base c.base self) kids) []) b
 
 node-sound :
     (c : Ctx) (self : Node) (kids : Forest) (acc b : List InlineFrame) (w : Bool) →
-    ((a b : List InlineFrame) → length a ≤ c.room → sayForest (belowNode c self) kids a ≡ fine b →
-    Sound (belowNode c self) kids a b) →
+    ((a b : List InlineFrame) → length a ≤ c.room → say_forest (below_node c self) kids a ≡ fine b →
+    Sound (below_node c self) kids a b) →
     length acc ≤ c.room →
     pick w
-    (and_then (sayForest (belowNode c self) kids) (saidPut (putFrame c (frame_of self) acc)))
-    (pick (deepIn (c.level + 1) kids) (wrong fault.Level) (fine acc))
+    (and_then (say_forest (below_node c self) kids) (said_put (put_frame c (frame_of self) acc)))
+    (pick (deep_in (c.level + 1) kids) (wrong fault.Level) (fine acc))
     ≡ fine b →
     NodeSound c self kids w acc b
 node-sound c self kids acc b true ih le p =
-    let o = then-fine (sayForest (belowNode c self) kids) (saidPut (putFrame c (frame_of self) acc)) b p in
+    let o = then-fine (say_forest (below_node c self) kids) (said_put (put_frame c (frame_of self) acc)) b p in
     let q = put-sound c (frame_of self) acc o.0 o.1 in
     let r = ih o.0 b q.few o.2 in
     record {
@@ -164,7 +164,7 @@ node-sound c self kids acc b true ih le p =
       frames-are = fine-then q r.frames-are;
     }
 node-sound c self kids acc b false ih le p =
-    let o = deep-sound (deepIn (c.level + 1) kids) acc b p in
+    let o = deep-sound (deep_in (c.level + 1) kids) acc b p in
     record {
       sums = λ h. never (let z : ◌≡◌ {A = ℕ} 0 1 = cc in z);
       files = λ h. never (let z : ◌≡◌ {A = ℕ} 0 1 = cc in z);
@@ -173,9 +173,9 @@ node-sound c self kids acc b false ih le p =
     }
 
 pub say-sound :
-    (t : Forest) (c : Ctx) (acc b : List InlineFrame) → length acc ≤ c.room → sayForest c t acc ≡ fine b →
+    (t : Forest) (c : Ctx) (acc b : List InlineFrame) → length acc ≤ c.room → say_forest c t acc ≡ fine b →
     Sound c t acc b
-unfolding sayForest frames EachJudged Levels
+unfolding say_forest frames EachJudged Levels
 say-sound none c acc b le p =
     let q : b ≡ acc = cc in
     record {
@@ -185,16 +185,16 @@ say-sound none c acc b le p =
       frames-are = record { same = q ∙ sym (append-nil acc); few = rw q le };
     }
 say-sound (tree self kids rest) c acc b le p =
-    let w = anyIn c.addr c.base self.ranges in
+    let w = any_in c.addr c.base self.ranges in
     let J = pick w
-    (and_then (sayForest (belowNode c self) kids) (saidPut (putFrame c (frame_of self) acc)))
-    (pick (deepIn (c.level + 1) kids) (wrong fault.Level) (fine acc)) in
-    let o = then-fine (sayForest c rest)
-    (pick (ltb 64 c.level) (wrong fault.Level) (pick (anyLarge c.base self.ranges) (wrong fault.Sum)
+    (and_then (say_forest (below_node c self) kids) (said_put (put_frame c (frame_of self) acc)))
+    (pick (deep_in (c.level + 1) kids) (wrong fault.Level) (fine acc)) in
+    let o = then-fine (say_forest c rest)
+    (pick (ltb 64 c.level) (wrong fault.Level) (pick (any_large c.base self.ranges) (wrong fault.Sum)
     (pick (ltb 4294967295 self.file) (wrong fault.CallFile) J))) b p in
-    let j = judged-sound (ltb 64 c.level) (anyLarge c.base self.ranges) (ltb 4294967295 self.file) J
+    let j = judged-sound (ltb 64 c.level) (any_large c.base self.ranges) (ltb 4294967295 self.file) J
     o.0 o.1 in
-    let n = node-sound c self kids acc o.0 w (say-sound kids (belowNode c self)) le j.3 in
+    let n = node-sound c self kids acc o.0 w (say-sound kids (below_node c self)) le j.3 in
     let r = say-sound rest c o.0 b n.frames-are.few o.2 in
     record {
       sums = (j.1, n.sums, r.sums);

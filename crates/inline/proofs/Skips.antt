@@ -9,8 +9,8 @@ use lib.ListN.{length}
 use native.Mathlib.Omega.{arith}
 use borrow.Author.Tests.{eq-eqb, ne_eqb}
 use Rattle.reads.specs.Pick.{pick}
-use Rattle.inline.specs.Head.{headAt}
-use Rattle.inline.specs.Skip.{overKids, after_head, thenSkip, skipList, skipNode, StepGoes, Skipped}
+use Rattle.inline.specs.Head.{head_at}
+use Rattle.inline.specs.Skip.{over_kids, after_head, then_skip, skip_list, skip_node, StepGoes, Skipped}
 use Rattle.inline.specs.declared.head.Fault.{Fault}
 use Rattle.inline.specs.declared.head.NodeHead.{NodeHead}
 use Rattle.inline.specs.declared.head.Head.{Head}
@@ -27,40 +27,40 @@ use Rattle.inline.proofs.Progress.{head-end-next, head-next}
 pub record Left (s : List ℕ) (level to : ℕ) (ans : Passed) : Type 0 where
   pub fuel : ℕ
   pub enough : length s - to < fuel
-  pub same : ans ≡ skipList fuel s level to
+  pub same : ans ≡ skip_list fuel s level to
 
 -- the node's answer is past a list that is passed
 pub record Below (s : List ℕ) (level to : ℕ) (ans : Step) : Type 0 where
   pub list : Passed
   pub left : Left s level to list
-  pub over : ans ≡ overKids list
+  pub over : ans ≡ over_kids list
 
-module _ (s : List ℕ) (level at : ℕ) (h : Head) (H : h ≡ headAt s level at) where
-  node-is : (fuel : ℕ) → after_head (skipList fuel s (level + 1)) h ≡ skipNode fuel s level at
-  unfolding skipNode
-  node-is fuel = ap (after_head (skipList fuel s (level + 1))) H
+module _ (s : List ℕ) (level at : ℕ) (h : Head) (H : h ≡ head_at s level at) where
+  node-is : (fuel : ℕ) → after_head (skip_list fuel s (level + 1)) h ≡ skip_node fuel s level at
+  unfolding skip_node
+  node-is fuel = ap (after_head (skip_list fuel s (level + 1))) H
 
   pub skipped-end : (n : ℕ) → h ≡ head.End n → Skipped s level at (step.End n)
   unfolding after_head
   skipped-end n e = record {
     goes = head-end-next s level at h H n e;
-    says = λ f le. ap (after_head (skipList f s (level + 1))) (sym e) ∙ node-is f;
+    says = λ f le. ap (after_head (skip_list f s (level + 1))) (sym e) ∙ node-is f;
   }
 
   pub skipped-bad : (f : Fault) → h ≡ head.Bad f → Skipped s level at (step.Bad f)
   unfolding after_head
   skipped-bad f e = record {
     goes = tt;
-    says = λ g le. ap (after_head (skipList g s (level + 1))) (sym e) ∙ node-is g;
+    says = λ g le. ap (after_head (skip_list g s (level + 1))) (sym e) ∙ node-is g;
   }
 
   module _ (i : NodeHead) (e : h ≡ head.Node i) where
-    with_kids :
+    with-kids :
         (fuel : ℕ) →
-        pick (eqb i.kids 0) (step.Past i.next) (overKids (skipList fuel s (level + 1) i.next))
-        ≡ skipNode fuel s level at
+        pick (eqb i.kids 0) (step.Past i.next) (over_kids (skip_list fuel s (level + 1) i.next))
+        ≡ skip_node fuel s level at
     unfolding after_head
-    with_kids fuel = ap (after_head (skipList fuel s (level + 1))) (sym e) ∙ node-is fuel
+    with-kids fuel = ap (after_head (skip_list fuel s (level + 1))) (sym e) ∙ node-is fuel
 
     pub skipped-leaf : i.kids ≡ 0 → Skipped s level at (step.Past i.next)
     skipped-leaf z =
@@ -68,22 +68,22 @@ module _ (s : List ℕ) (level at : ℕ) (h : Head) (H : h ≡ headAt s level at
         record {
           goes = (g.0, g.1);
           says = λ f le.
-              ap (λ (b : Bool). pick b (step.Past i.next) (overKids (skipList f s (level + 1) i.next)))
+              ap (λ (b : Bool). pick b (step.Past i.next) (over_kids (skip_list f s (level + 1) i.next)))
               (sym (eq-eqb i.kids 0 z))
-              ∙ with_kids f;
+              ∙ with-kids f;
         }
 
     -- the children of a node that has some: the list starts where the head ends
     pub kids-start :
-        (i.kids ≡ 0 → ⊥) → (f : ℕ) → length s - at ≤ f → Below s (level + 1) i.next (skipNode f s level at)
+        (i.kids ≡ 0 → ⊥) → (f : ℕ) → length s - at ≤ f → Below s (level + 1) i.next (skip_node f s level at)
     kids-start z f le =
         let g = head-next s level at h H i e in
         record {
-          list = skipList f s (level + 1) i.next;
+          list = skip_list f s (level + 1) i.next;
           left = record { fuel = f; enough = omega (arith, g.0, g.1); same = refl };
           over =
-              sym (with_kids f)
-              ∙ ap (λ (b : Bool). pick b (step.Past i.next) (overKids (skipList f s (level + 1) i.next)))
+              sym (with-kids f)
+              ∙ ap (λ (b : Bool). pick b (step.Past i.next) (over_kids (skip_list f s (level + 1) i.next)))
               (ne_eqb i.kids 0 z);
         }
 
@@ -91,40 +91,40 @@ module _ (s : List ℕ) (level at : ℕ) (h : Head) (H : h ≡ headAt s level at
 
 module _ (s : List ℕ) (level to : ℕ) (r : Step) (S : Skipped s level to r) where
   -- the answer of a list from its first node
-  one : (ans : Passed) (g : ℕ) → length s - to < suc g → ans ≡ skipList (suc g) s level to →
-      ans ≡ thenSkip (skipList g s level) r
-  unfolding skipList skipNode
-  one ans g lt e = e ∙ ap (thenSkip (skipList g s level)) (sym (S.says g (omega arith)))
+  one : (ans : Passed) (g : ℕ) → length s - to < suc g → ans ≡ skip_list (suc g) s level to →
+      ans ≡ then_skip (skip_list g s level) r
+  unfolding skip_list skip_node
+  one ans g lt e = e ∙ ap (then_skip (skip_list g s level)) (sym (S.says g (omega arith)))
 
   onward :
-      (ans : Passed) (f : ℕ) → length s - to < f → ans ≡ skipList f s level to →
-      (g : ℕ) × (length s - to ≤ g) × (ans ≡ thenSkip (skipList g s level) r)
+      (ans : Passed) (f : ℕ) → length s - to < f → ans ≡ skip_list f s level to →
+      (g : ℕ) × (length s - to ≤ g) × (ans ≡ then_skip (skip_list g s level) r)
   onward ans zero lt e = absurd (omega arith)
   onward ans (suc g) lt e = (g, omega arith, one ans g lt e)
 
   module _ (ans : Passed) (L : Left s level to ans) where
     pub left-past : (n : ℕ) → r ≡ step.Past n → Left s level n ans
-    unfolding thenSkip
+    unfolding then_skip
     left-past n p =
         let o = onward ans L.fuel L.enough L.same in
         let b : StepGoes to (length s) (step.Past n) = subst (StepGoes to (length s)) p S.goes in
         record {
           fuel = o.0;
           enough = omega (arith, o.1, b.0, b.1);
-          same = o.2 ∙ ap (thenSkip (skipList o.0 s level)) p;
+          same = o.2 ∙ ap (then_skip (skip_list o.0 s level)) p;
         }
 
     pub left_end : (n : ℕ) → r ≡ step.End n → passed.At n ≡ ans
-    unfolding thenSkip
+    unfolding then_skip
     left_end n p =
         let o = onward ans L.fuel L.enough L.same in
-        sym (o.2 ∙ ap (thenSkip (skipList o.0 s level)) p)
+        sym (o.2 ∙ ap (then_skip (skip_list o.0 s level)) p)
 
     pub left-bad : (f : Fault) → r ≡ step.Bad f → passed.Bad f ≡ ans
-    unfolding thenSkip
+    unfolding then_skip
     left-bad f p =
         let o = onward ans L.fuel L.enough L.same in
-        sym (o.2 ∙ ap (thenSkip (skipList o.0 s level)) p)
+        sym (o.2 ∙ ap (then_skip (skip_list o.0 s level)) p)
 
   -- the same below a node
   module _ (ans : Step) (B : Below s level to ans) where
@@ -132,7 +132,7 @@ module _ (s : List ℕ) (level to : ℕ) (r : Step) (S : Skipped s level to r) w
     below-past n p = record { list = B.list; left = left-past B.list B.left n p; over = B.over }
 
     pub below_end : (n : ℕ) → r ≡ step.End n → step.Past n ≡ ans
-    below_end n p = ap overKids (left_end B.list B.left n p) ∙ sym B.over
+    below_end n p = ap over_kids (left_end B.list B.left n p) ∙ sym B.over
 
     pub below-bad : (f : Fault) → r ≡ step.Bad f → step.Bad f ≡ ans
-    below-bad f p = ap overKids (left-bad B.list B.left f p) ∙ sym B.over
+    below-bad f p = ap over_kids (left-bad B.list B.left f p) ∙ sym B.over

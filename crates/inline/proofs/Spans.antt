@@ -11,10 +11,10 @@ use native.Mathlib.Omega.{arith}
 use borrow.Author.Tests.{lt-ltb, le-ltb, eq-eqb, ne_eqb}
 use Rattle.reads.specs.Pick.{pick}
 use Rattle.inline.specs.Tree.{Range}
-use Rattle.inline.specs.Frames.{in_range, anyIn, firstOff}
-use Rattle.inline.specs.Head.{One, one, unread, rangeAt, Ranges, all, some, andRange, thenRange, rangesAt}
-use Rattle.inline.specs.Fits.{mostAddress, tooLarge, anyLarge}
-use Rattle.inline.specs.Judge.{span_of, spansOf}
+use Rattle.inline.specs.Frames.{in_range, any_in, first_off}
+use Rattle.inline.specs.Head.{One, one, unread, range_at, Ranges, all, some, and_range, then_range, ranges_at}
+use Rattle.inline.specs.Fits.{most_address, too_large, any_large}
+use Rattle.inline.specs.Judge.{span_of, spans_of}
 use Rattle.inline.specs.declared.head.Cause.{Cause}
 use Rattle.inline.specs.declared.head.Fault.{Fault}
 use Rattle.inline.specs.declared.head.Fault.TheVariants as fault
@@ -27,26 +27,26 @@ use Rattle.inline.proofs.Ranges.{OneGoes, range-goes}
 -- ---- one range
 
 module _ (s : List ℕ) (c : Ctx) (at : ℕ) where
-  pub span_none : (k : Cause) → rangeAt s at ≡ unread k → span.Bad (fault.Unread k) ≡ span_of c (rangeAt s at)
+  pub span_none : (k : Cause) → range_at s at ≡ unread k → span.Bad (fault.Unread k) ≡ span_of c (range_at s at)
   unfolding span_of
   span_none k e = ap (span_of c) (sym e)
 
-  module _ (off size n : ℕ) (e : rangeAt s at ≡ one (record { off = off; size = size }) n) where
-    pub span-start : mostAddress < c.base + off → span.Bad fault.Sum ≡ span_of c (rangeAt s at)
-    unfolding span_of tooLarge
-    span-start h = rw (e, lt-ltb mostAddress (c.base + off) h)
+  module _ (off size n : ℕ) (e : range_at s at ≡ one (record { off = off; size = size }) n) where
+    pub span-start : most_address < c.base + off → span.Bad fault.Sum ≡ span_of c (range_at s at)
+    unfolding span_of too_large
+    span-start h = rw (e, lt-ltb most_address (c.base + off) h)
 
     pub span-end :
-        c.base + off ≤ mostAddress → mostAddress < c.base + off + size → span.Bad fault.Sum ≡ span_of c (rangeAt s at)
-    unfolding span_of tooLarge
-    span-end h k = rw (e, le-ltb mostAddress (c.base + off) h, lt-ltb mostAddress (c.base + off + size) k)
+        c.base + off ≤ most_address → most_address < c.base + off + size → span.Bad fault.Sum ≡ span_of c (range_at s at)
+    unfolding span_of too_large
+    span-end h k = rw (e, le-ltb most_address (c.base + off) h, lt-ltb most_address (c.base + off + size) k)
 
     pub span-at :
-        (t : Bool) → c.base + off ≤ mostAddress → c.base + off + size ≤ mostAddress →
+        (t : Bool) → c.base + off ≤ most_address → c.base + off + size ≤ most_address →
         t ≡ pick (leb (c.base + off) c.addr) (ltb c.addr (c.base + off + size)) false →
-        span.At n (c.base + off) t ≡ span_of c (rangeAt s at)
-    unfolding span_of tooLarge in_range
-    span-at t h k w = rw (w, e, le-ltb mostAddress (c.base + off) h, le-ltb mostAddress (c.base + off + size) k)
+        span.At n (c.base + off) t ≡ span_of c (range_at s at)
+    unfolding span_of too_large in_range
+    span-at t h k w = rw (w, e, le-ltb most_address (c.base + off) h, le-ltb most_address (c.base + off + size) k)
 
 -- where reading goes on
 SpanGoes : ℕ → ℕ → Span → Type 0
@@ -56,142 +56,142 @@ SpanGoes at len (span.Bad f) = Unit {0}
 span-goes : (c : Ctx) (at len : ℕ) (O : One) → OneGoes at len O → SpanGoes at len (span_of c O)
 unfolding span_of SpanGoes
 span-goes c at len (one r n) g =
-    pick-has (SpanGoes at len) (tooLarge c.base r) (span.Bad fault.Sum) _ (λ _. tt) (λ _. g)
+    pick-has (SpanGoes at len) (too_large c.base r) (span.Bad fault.Sum) _ (λ _. tt) (λ _. g)
 span-goes c at len (unread k) g = tt
 
 pub span-next :
-    (s : List ℕ) (c : Ctx) (at : ℕ) (r : Span) → r ≡ span_of c (rangeAt s at) →
+    (s : List ℕ) (c : Ctx) (at : ℕ) (r : Span) → r ≡ span_of c (range_at s at) →
     (n start : ℕ) (inside : Bool) → r ≡ span.At n start inside → (at < n) × (n ≤ length s)
 unfolding SpanGoes
 span-next s c at r R n start inside p =
-    subst (SpanGoes at (length s)) (sym R ∙ p) (span-goes c at (length s) (rangeAt s at) (range-goes s at))
+    subst (SpanGoes at (length s)) (sym R ∙ p) (span-goes c at (length s) (range_at s at) (range-goes s at))
 
 -- ---- all of them, from a turn of the pass on: `fresh` says that none was read, `first` is the start kept, `held`
 -- whether one so far contains the address
 
-firstFrom : Bool → ℕ → ℕ → List Range → ℕ
-firstFrom fresh first base [] = first
-firstFrom fresh first base (r ∷ rs) = pick fresh (base + r.off) first
+first_from : Bool → ℕ → ℕ → List Range → ℕ
+first_from fresh first base [] = first
+first_from fresh first base (r ∷ rs) = pick fresh (base + r.off) first
 
-pub spansFrom : Ctx → Bool → ℕ → Bool → Ranges → Span
-spansFrom c fresh first held (all n rs) =
-    pick (anyLarge c.base rs) (span.Bad fault.Sum)
-    (span.At n (firstFrom fresh first c.base rs) (pick held true (anyIn c.addr c.base rs)))
-spansFrom c fresh first held (some k rs) =
-    pick (anyLarge c.base rs) (span.Bad fault.Sum) (span.Bad (fault.Unread k))
+pub spans_from : Ctx → Bool → ℕ → Bool → Ranges → Span
+spans_from c fresh first held (all n rs) =
+    pick (any_large c.base rs) (span.Bad fault.Sum)
+    (span.At n (first_from fresh first c.base rs) (pick held true (any_in c.addr c.base rs)))
+spans_from c fresh first held (some k rs) =
+    pick (any_large c.base rs) (span.Bad fault.Sum) (span.Bad (fault.Unread k))
 
-first-start : (base : ℕ) (rs : List Range) → firstFrom true base base rs ≡ base + firstOff rs
-unfolding firstFrom firstOff
+first-start : (base : ℕ) (rs : List Range) → first_from true base base rs ≡ base + first_off rs
+unfolding first_from first_off
 first-start base [] = omega arith
 first-start base (r ∷ rs) = refl
 
-first-later : (first base : ℕ) (rs : List Range) → firstFrom false first base rs ≡ first
-unfolding firstFrom
+first-later : (first base : ℕ) (rs : List Range) → first_from false first base rs ≡ first
+unfolding first_from
 first-later first base [] = refl
 first-later first base (r ∷ rs) = refl
 
-none_read : (c : Ctx) (G : Ranges) → spansOf c G ≡ spansFrom c true c.base false G
-unfolding spansOf spansFrom
+none_read : (c : Ctx) (G : Ranges) → spans_of c G ≡ spans_from c true c.base false G
+unfolding spans_of spans_from
 none_read c (all n rs) = rw (first-start c.base rs)
 none_read c (some k rs) = refl
 
 -- before the first turn
-pub spans-start : (c : Ctx) (count : ℕ) (G : Ranges) → spansOf c G ≡ spansFrom c (eqb count count) c.base false G
+pub spans-start : (c : Ctx) (count : ℕ) (G : Ranges) → spans_of c G ≡ spans_from c (eqb count count) c.base false G
 spans-start c count G =
-    none_read c G ∙ ap (λ (t : Bool). spansFrom c t c.base false G) (sym (eq-eqb count count refl))
+    none_read c G ∙ ap (λ (t : Bool). spans_from c t c.base false G) (sym (eq-eqb count count refl))
 
 -- one range more in front
 and-range :
     (c : Ctx) (fresh : Bool) (first : ℕ) (held : Bool) (r : Range) (G : Ranges) →
-    spansFrom c fresh first held (andRange r G)
-    ≡ pick (tooLarge c.base r) (span.Bad fault.Sum)
-    (spansFrom c false (pick fresh (c.base + r.off) first) (pick held true (in_range c.addr c.base r)) G)
-unfolding spansFrom andRange anyLarge anyIn firstFrom
-and-range c fresh first held r (all n rs) = rw first-later (go (tooLarge c.base r) held)
+    spans_from c fresh first held (and_range r G)
+    ≡ pick (too_large c.base r) (span.Bad fault.Sum)
+    (spans_from c false (pick fresh (c.base + r.off) first) (pick held true (in_range c.addr c.base r)) G)
+unfolding spans_from and_range any_large any_in first_from
+and-range c fresh first held r (all n rs) = rw first-later (go (too_large c.base r) held)
   where
     f : ℕ
     f = pick fresh (c.base + r.off) first
 
     go :
         (t held : Bool) →
-        pick (pick t true (anyLarge c.base rs)) (span.Bad fault.Sum)
-        (span.At n f (pick held true (pick (in_range c.addr c.base r) true (anyIn c.addr c.base rs))))
-        ≡ pick t (span.Bad fault.Sum) (pick (anyLarge c.base rs) (span.Bad fault.Sum)
-        (span.At n f (pick (pick held true (in_range c.addr c.base r)) true (anyIn c.addr c.base rs))))
+        pick (pick t true (any_large c.base rs)) (span.Bad fault.Sum)
+        (span.At n f (pick held true (pick (in_range c.addr c.base r) true (any_in c.addr c.base rs))))
+        ≡ pick t (span.Bad fault.Sum) (pick (any_large c.base rs) (span.Bad fault.Sum)
+        (span.At n f (pick (pick held true (in_range c.addr c.base r)) true (any_in c.addr c.base rs))))
     go true held = refl
     go false true = refl
     go false false = refl
-and-range c fresh first held r (some k rs) = go (tooLarge c.base r)
+and-range c fresh first held r (some k rs) = go (too_large c.base r)
   where
     go :
         (t : Bool) →
-        pick (pick t true (anyLarge c.base rs)) (span.Bad fault.Sum) (span.Bad (fault.Unread k))
+        pick (pick t true (any_large c.base rs)) (span.Bad fault.Sum) (span.Bad (fault.Unread k))
         ≡ pick t (span.Bad fault.Sum)
-        (pick (anyLarge c.base rs) (span.Bad fault.Sum) (span.Bad (fault.Unread k)))
+        (pick (any_large c.base rs) (span.Bad fault.Sum) (span.Bad (fault.Unread k)))
     go true = refl
     go false = refl
 
 -- from what one range comes to
-fromSpan : Ctx → Bool → ℕ → Bool → (ℕ → Ranges) → Span → Span
-fromSpan c fresh first held go (span.At n start inside) =
-    spansFrom c false (pick fresh start first) (pick held true inside) (go n)
-fromSpan c fresh first held go (span.Bad f) = span.Bad f
+from_span : Ctx → Bool → ℕ → Bool → (ℕ → Ranges) → Span → Span
+from_span c fresh first held go (span.At n start inside) =
+    spans_from c false (pick fresh start first) (pick held true inside) (go n)
+from_span c fresh first held go (span.Bad f) = span.Bad f
 
 then-span :
     (c : Ctx) (fresh : Bool) (first : ℕ) (held : Bool) (go : ℕ → Ranges) (O : One) →
-    spansFrom c fresh first held (thenRange go O) ≡ fromSpan c fresh first held go (span_of c O)
-unfolding thenRange span_of fromSpan spansFrom anyLarge
+    spans_from c fresh first held (then_range go O) ≡ from_span c fresh first held go (span_of c O)
+unfolding then_range span_of from_span spans_from any_large
 then-span c fresh first held go (one r n) =
     and-range c fresh first held r (go n)
-    ∙ sym (pick-ap (fromSpan c fresh first held go) (tooLarge c.base r) (span.Bad fault.Sum)
+    ∙ sym (pick-ap (from_span c fresh first held go) (too_large c.base r) (span.Bad fault.Sum)
     (span.At n (c.base + r.off) (in_range c.addr c.base r)))
 then-span c fresh first held go (unread k) = refl
 
 one-turn :
-    (s : List ℕ) (c : Ctx) (fresh : Bool) (first : ℕ) (held : Bool) (to : ℕ) (r : Span) → r ≡ span_of c (rangeAt s to) →
+    (s : List ℕ) (c : Ctx) (fresh : Bool) (first : ℕ) (held : Bool) (to : ℕ) (r : Span) → r ≡ span_of c (range_at s to) →
     (k : ℕ) →
-    spansFrom c fresh first held (rangesAt (suc k) s to) ≡ fromSpan c fresh first held (rangesAt (suc k - 1) s) r
-unfolding rangesAt
+    spans_from c fresh first held (ranges_at (suc k) s to) ≡ from_span c fresh first held (ranges_at (suc k - 1) s) r
+unfolding ranges_at
 one-turn s c fresh first held to r R k =
-    then-span c fresh first held (rangesAt k s) (rangeAt s to)
-    ∙ ap (fromSpan c fresh first held (rangesAt k s)) (sym R)
-    ∙ ap (λ (j : ℕ). fromSpan c fresh first held (rangesAt j s) r) (sym (sub-one (suc k)))
+    then-span c fresh first held (ranges_at k s) (range_at s to)
+    ∙ ap (from_span c fresh first held (ranges_at k s)) (sym R)
+    ∙ ap (λ (j : ℕ). from_span c fresh first held (ranges_at j s) r) (sym (sub-one (suc k)))
 
 module _ (s : List ℕ) (c : Ctx) (count left first : ℕ) (held : Bool) (to : ℕ) (r : Span)
-    (R : r ≡ span_of c (rangeAt s to)) (l : 0 < left) where
+    (R : r ≡ span_of c (range_at s to)) (l : 0 < left) where
   turn :
-      spansFrom c (eqb left count) first held (rangesAt left s to)
-      ≡ fromSpan c (eqb left count) first held (rangesAt (left - 1) s) r
+      spans_from c (eqb left count) first held (ranges_at left s to)
+      ≡ from_span c (eqb left count) first held (ranges_at (left - 1) s) r
   turn = go left l
     where
       go :
           (k : ℕ) → 0 < k →
-          spansFrom c (eqb left count) first held (rangesAt k s to)
-          ≡ fromSpan c (eqb left count) first held (rangesAt (k - 1) s) r
+          spans_from c (eqb left count) first held (ranges_at k s to)
+          ≡ from_span c (eqb left count) first held (ranges_at (k - 1) s) r
       go zero h = absurd (omega arith)
       go (suc k) h = one-turn s c (eqb left count) first held to r R k
 
   pub spans-bad :
-      (f : Fault) → r ≡ span.Bad f → span.Bad f ≡ spansFrom c (eqb left count) first held (rangesAt left s to)
-  unfolding fromSpan
-  spans-bad f p = sym (turn ∙ ap (fromSpan c (eqb left count) first held (rangesAt (left - 1) s)) p)
+      (f : Fault) → r ≡ span.Bad f → span.Bad f ≡ spans_from c (eqb left count) first held (ranges_at left s to)
+  unfolding from_span
+  spans-bad f p = sym (turn ∙ ap (from_span c (eqb left count) first held (ranges_at (left - 1) s)) p)
 
   -- what is kept after a turn
   pub spans-at :
       (n start : ℕ) (inside : Bool) → r ≡ span.At n start inside → left ≤ count →
       (x : ℕ) → x ≡ pick (eqb left count) start first → (y : Bool) → y ≡ pick held true inside →
-      spansFrom c (eqb left count) first held (rangesAt left s to)
-      ≡ spansFrom c (eqb (left - 1) count) x y (rangesAt (left - 1) s n)
-  unfolding fromSpan
+      spans_from c (eqb left count) first held (ranges_at left s to)
+      ≡ spans_from c (eqb (left - 1) count) x y (ranges_at (left - 1) s n)
+  unfolding from_span
   spans-at n start inside p le x ex y ey =
       turn
-      ∙ ap (fromSpan c (eqb left count) first held (rangesAt (left - 1) s)) p
+      ∙ ap (from_span c (eqb left count) first held (ranges_at (left - 1) s)) p
       ∙ rw (ne_eqb (left - 1) count (λ e. omega arith), ex, ey)
 
 pub spans-none :
     (s : List ℕ) (c : Ctx) (fresh : Bool) (first : ℕ) (held : Bool) (left to : ℕ) → left ≡ 0 →
-    span.At to first held ≡ spansFrom c fresh first held (rangesAt left s to)
-unfolding rangesAt spansFrom anyLarge anyIn firstFrom
+    span.At to first held ≡ spans_from c fresh first held (ranges_at left s to)
+unfolding ranges_at spans_from any_large any_in first_from
 spans-none s c fresh first true zero to z = refl
 spans-none s c fresh first false zero to z = refl
 spans-none s c fresh first held (suc k) to z = absurd (omega arith)

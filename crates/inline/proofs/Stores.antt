@@ -8,23 +8,23 @@ use lib.Seq.{take-suc, get_or-set_same, get_or-set_other}
 use native.Mathlib.Numerals.{add-one}
 use native.Mathlib.Omega.{arith}
 use Rattle.types.specs.declared.InlineFrame.{InlineFrame}
-use Rattle.inline.specs.Store.{frame, flat, frame_at, framesIn}
+use Rattle.inline.specs.Store.{frame, flat, frame_at, frames_in}
 
 -- ---- how many there are
 
-pub frames-length : (n : ℕ) (xs : List ℕ) → length (framesIn n xs) ≡ n
-unfolding framesIn
+pub frames-length : (n : ℕ) (xs : List ℕ) → length (frames_in n xs) ≡ n
+unfolding frames_in
 frames-length zero xs = refl
 frames-length (suc n) xs =
     let h = frames-length n xs in
-    omega (arith, length-append (framesIn n xs) (frame_at n xs ∷ []))
+    omega (arith, length-append (frames_in n xs) (frame_at n xs ∷ []))
 
 -- ---- one more
 
 -- frames are told by the numbers before their end
 frames-agree :
-    (n : ℕ) (xs ys : List ℕ) → ((i : ℕ) → i < 3 * n → get_or ys i 0 ≡ get_or xs i 0) → framesIn n ys ≡ framesIn n xs
-unfolding framesIn
+    (n : ℕ) (xs ys : List ℕ) → ((i : ℕ) → i < 3 * n → get_or ys i 0 ≡ get_or xs i 0) → frames_in n ys ≡ frames_in n xs
+unfolding frames_in
 frames-agree zero xs ys h = refl
 frames-agree (suc n) xs ys h =
     rw (
@@ -63,9 +63,9 @@ module _ (xs : List ℕ) (n a b d : ℕ) (h : 3 * n + 3 ≤ length xs) where
   third = get_or-set_same (set (set xs (3 * n) a) (3 * n + 1) b) (3 * n + 2) d 0 (simp length-set (omega arith))
 
   pub frames-push :
-      framesIn (n + 1) (set (set (set xs (3 * n) a) (3 * n + 1) b) (3 * n + 2) d)
-      ≡ framesIn n xs ++ frame a b d ∷ []
-  unfolding framesIn written
+      frames_in (n + 1) (set (set (set xs (3 * n) a) (3 * n + 1) b) (3 * n + 2) d)
+      ≡ frames_in n xs ++ frame a b d ∷ []
+  unfolding frames_in written
   frames-push = rw (add-one n) (rw (frames-agree n xs written before, first, second, third))
 
 -- ---- the numbers they come to
@@ -90,8 +90,8 @@ take-three n xs h =
     ∙ append_assoc (take n xs ++ get_or xs n 0 ∷ []) (get_or xs (suc n) 0 ∷ []) (get_or xs (suc (suc n)) 0 ∷ [])
     ∙ append_assoc (take n xs) (get_or xs n 0 ∷ []) (get_or xs (suc n) 0 ∷ get_or xs (suc (suc n)) 0 ∷ []))
 
-pub frames-flat : (n : ℕ) (xs : List ℕ) → 3 * n ≤ length xs → take (3 * n) xs ≡ flat (framesIn n xs)
-unfolding framesIn flat
+pub frames-flat : (n : ℕ) (xs : List ℕ) → 3 * n ≤ length xs → take (3 * n) xs ≡ flat (frames_in n xs)
+unfolding frames_in flat
 frames-flat zero xs h = refl
 frames-flat (suc n) xs h =
     let e : 3 * suc n ≡ 3 * n + 3 = omega arith in
@@ -99,4 +99,4 @@ frames-flat (suc n) xs h =
     (take-three (3 * n) xs (omega arith)
     ∙ ap (λ (l : List ℕ). l ++ get_or xs (3 * n) 0 ∷ get_or xs (3 * n + 1) 0 ∷ get_or xs (3 * n + 2) 0 ∷ [])
     (frames-flat n xs (omega arith))
-    ∙ sym (flat_append (framesIn n xs) (frame_at n xs ∷ [])))
+    ∙ sym (flat_append (frames_in n xs) (frame_at n xs ∷ [])))

@@ -5,31 +5,31 @@
 use Rattle.std.specs.Prelude.{ℕ, suc, ◌+◌, ◌≤◌, max, Bool, true, false, List, [], ◌∷◌, ◌≡◌, ltb}
 use Rattle.reads.specs.Pick.{pick}
 use Rattle.inline.specs.Tree.{Range, Forest, none, tree}
-use Rattle.inline.specs.Frames.{anyIn, childBase}
+use Rattle.inline.specs.Frames.{any_in, child_base}
 
 -- the largest address, 2^64-1, and the largest call file, 2^32-1
-abbrev pub mostAddress : ℕ
-mostAddress = 18446744073709551615
+abbrev pub most_address : ℕ
+most_address = 18446744073709551615
 
-abbrev pub mostFile : ℕ
-mostFile = 4294967295
+abbrev pub most_file : ℕ
+most_file = 4294967295
 
 -- a range whose start or end is above the largest address
-unfoldable pub tooLarge : ℕ → Range → Bool
-tooLarge base r = pick (ltb mostAddress (base + r.off)) true (ltb mostAddress (base + r.off + r.size))
+unfoldable pub too_large : ℕ → Range → Bool
+too_large base r = pick (ltb most_address (base + r.off)) true (ltb most_address (base + r.off + r.size))
 
 -- some range is
-unfoldable pub anyLarge : ℕ → List Range → Bool
-anyLarge base [] = false
-anyLarge base (r ∷ rs) = pick (tooLarge base r) true (anyLarge base rs)
+unfoldable pub any_large : ℕ → List Range → Bool
+any_large base [] = false
+any_large base (r ∷ rs) = pick (too_large base r) true (any_large base rs)
 
 -- no judged node has a start or an end above the largest address, or a call file above the limit
 unfoldable pub Fits : ℕ → ℕ → Forest → Type 0
 Fits addr base none = Unit {0}
 Fits addr base (tree n kids rest) =
-    (anyLarge base n.ranges ≡ false)
-    × (n.file ≤ mostFile)
-    × (anyIn addr base n.ranges ≡ true → Fits addr (childBase base n) kids)
+    (any_large base n.ranges ≡ false)
+    × (n.file ≤ most_file)
+    × (any_in addr base n.ranges ≡ true → Fits addr (child_base base n) kids)
     × Fits addr base rest
 
 -- how many levels there are

@@ -11,17 +11,17 @@ unfoldable pub in_range : ℕ → ℕ → Range → Bool
 in_range addr base r = pick (leb (base + r.off) addr) (ltb addr (base + r.off + r.size)) false
 
 -- a node contains the address if any of its ranges does
-unfoldable pub anyIn : ℕ → ℕ → List Range → Bool
-anyIn addr base [] = false
-anyIn addr base (r ∷ rs) = pick (in_range addr base r) true (anyIn addr base rs)
+unfoldable pub any_in : ℕ → ℕ → List Range → Bool
+any_in addr base [] = false
+any_in addr base (r ∷ rs) = pick (in_range addr base r) true (any_in addr base rs)
 
 -- offsets of children count from the first range's start
-unfoldable pub firstOff : List Range → ℕ
-firstOff [] = 0
-firstOff (r ∷ rs) = r.off
+unfoldable pub first_off : List Range → ℕ
+first_off [] = 0
+first_off (r ∷ rs) = r.off
 
-abbrev pub childBase : ℕ → Node → ℕ
-childBase base n = base + firstOff n.ranges
+abbrev pub child_base : ℕ → Node → ℕ
+child_base base n = base + first_off n.ranges
 
 -- a node as a frame
 abbrev pub frame_of : Node → InlineFrame
@@ -35,4 +35,4 @@ named n = pick (eqb n.name 0) [] (frame_of n ∷ [])
 unfoldable pub frames : ℕ → ℕ → Forest → List InlineFrame
 frames addr base none = []
 frames addr base (tree n kids rest) =
-    pick (anyIn addr base n.ranges) (named n ++ frames addr (childBase base n) kids) [] ++ frames addr base rest
+    pick (any_in addr base n.ranges) (named n ++ frames addr (child_base base n) kids) [] ++ frames addr base rest

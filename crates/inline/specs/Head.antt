@@ -16,7 +16,7 @@ use Rattle.reads.specs.declared.Read8.{Read8}
 use Rattle.reads.specs.declared.Read8.TheVariants as r8
 use Rattle.reads.specs.declared.Read32.{Read32}
 use Rattle.reads.specs.declared.Read32.TheVariants as r32
-use Rattle.leb128.specs.Answers.{unsignedAt}
+use Rattle.leb128.specs.Answers.{unsigned_at}
 use Rattle.leb128.specs.declared.Unsigned.{Unsigned}
 use Rattle.leb128.specs.declared.Unsigned.TheVariants as u
 use Rattle.inline.specs.Tree.{Range, Node}
@@ -39,61 +39,61 @@ num_of u.Short = num.Bad cause.Short
 num_of u.Wide = num.Bad cause.Wide
 
 unfoldable pub num_at : List ℕ → ℕ → Num
-num_at s at = num_of (unsignedAt s at)
+num_at s at = num_of (unsigned_at s at)
 
 -- one range and the place after it
 pub data One : Type 0 where
   one : Range → ℕ → One
   unread : Cause → One
 
-unfoldable pub withSize : ℕ → Num → One
-withSize off (num.Value size n) = one (record { off = off; size = size }) n
-withSize off (num.Bad c) = unread c
+unfoldable pub with_size : ℕ → Num → One
+with_size off (num.Value size n) = one (record { off = off; size = size }) n
+with_size off (num.Bad c) = unread c
 
-unfoldable pub withOff : List ℕ → Num → One
-withOff s (num.Value off n) = withSize off (num_at s n)
-withOff s (num.Bad c) = unread c
+unfoldable pub with_off : List ℕ → Num → One
+with_off s (num.Value off n) = with_size off (num_at s n)
+with_off s (num.Bad c) = unread c
 
-unfoldable pub rangeAt : List ℕ → ℕ → One
-rangeAt s at = withOff s (num_at s at)
+unfoldable pub range_at : List ℕ → ℕ → One
+range_at s at = with_off s (num_at s at)
 
 -- ranges: all of them and the place after them, or those before one that doesn't read
 pub data Ranges : Type 0 where
   all : ℕ → List Range → Ranges
   some : Cause → List Range → Ranges
 
-unfoldable pub andRange : Range → Ranges → Ranges
-andRange r (all n rs) = all n (r ∷ rs)
-andRange r (some c rs) = some c (r ∷ rs)
+unfoldable pub and_range : Range → Ranges → Ranges
+and_range r (all n rs) = all n (r ∷ rs)
+and_range r (some c rs) = some c (r ∷ rs)
 
-unfoldable pub thenRange : (ℕ → Ranges) → One → Ranges
-thenRange go (one r n) = andRange r (go n)
-thenRange go (unread c) = some c []
+unfoldable pub then_range : (ℕ → Ranges) → One → Ranges
+then_range go (one r n) = and_range r (go n)
+then_range go (unread c) = some c []
 
-unfoldable pub rangesAt : ℕ → List ℕ → ℕ → Ranges
-rangesAt zero s at = all at []
-rangesAt (suc count) s at = thenRange (rangesAt count s) (rangeAt s at)
+unfoldable pub ranges_at : ℕ → List ℕ → ℕ → Ranges
+ranges_at zero s at = all at []
+ranges_at (suc count) s at = then_range (ranges_at count s) (range_at s at)
 
 -- what follows the ranges: children byte, name, call file, call line
-unfoldable pub withLine : ℕ → ℕ → ℕ → Num → Tail
-withLine kids name file (num.Value line n) =
+unfoldable pub with_line : ℕ → ℕ → ℕ → Num → Tail
+with_line kids name file (num.Value line n) =
     tail.Whole (record { kids = kids; name = name; file = file; line = min 4294967295 line; next = n })
-withLine kids name file (num.Bad c) = tail.Late file c
+with_line kids name file (num.Bad c) = tail.Late file c
 
-unfoldable pub withFile : List ℕ → ℕ → ℕ → Num → Tail
-withFile s kids name (num.Value file n) = withLine kids name file (num_at s n)
-withFile s kids name (num.Bad c) = tail.Cut c
+unfoldable pub with_file : List ℕ → ℕ → ℕ → Num → Tail
+with_file s kids name (num.Value file n) = with_line kids name file (num_at s n)
+with_file s kids name (num.Bad c) = tail.Cut c
 
-unfoldable pub withName : List ℕ → ℕ → ℕ → Read32 → Tail
-withName s at kids (r32.Value name) = withFile s kids name (num_at s (at + 5))
-withName s at kids r32.Unread = tail.Cut cause.Short
+unfoldable pub with_name : List ℕ → ℕ → ℕ → Read32 → Tail
+with_name s at kids (r32.Value name) = with_file s kids name (num_at s (at + 5))
+with_name s at kids r32.Unread = tail.Cut cause.Short
 
-unfoldable pub withKids : List ℕ → ℕ → Read8 → Tail
-withKids s at (r8.Value kids) = withName s at kids (u32_at s (at + 1))
-withKids s at r8.Unread = tail.Cut cause.Short
+unfoldable pub with_kids : List ℕ → ℕ → Read8 → Tail
+with_kids s at (r8.Value kids) = with_name s at kids (u32_at s (at + 1))
+with_kids s at r8.Unread = tail.Cut cause.Short
 
 unfoldable pub tail_at : List ℕ → ℕ → Tail
-tail_at s at = withKids s at (u8_at s at)
+tail_at s at = with_kids s at (u8_at s at)
 
 -- a whole head: the place of its first range, what the node says, its children byte, and the place after the head
 pub record Whole : Type 0 where
@@ -111,10 +111,10 @@ pub data Raw : Type 0 where
   late : Cause → List Range → (file : ℕ) → Raw
   node : Whole → Raw
 
-unfoldable pub withTail : ℕ → List Range → Tail → Raw
-withTail first rs (tail.Cut c) = part c rs
-withTail first rs (tail.Late file c) = late c rs file
-withTail first rs (tail.Whole t) =
+unfoldable pub with_tail : ℕ → List Range → Tail → Raw
+with_tail first rs (tail.Cut c) = part c rs
+with_tail first rs (tail.Late file c) = late c rs file
+with_tail first rs (tail.Whole t) =
     node (record {
       first = first;
       self = record { ranges = rs; name = t.name; file = t.file; line = t.line };
@@ -122,24 +122,24 @@ withTail first rs (tail.Whole t) =
       next = t.next;
     })
 
-unfoldable pub withRanges : List ℕ → ℕ → Ranges → Raw
-withRanges s first (all n rs) = withTail first rs (tail_at s n)
-withRanges s first (some c rs) = part c rs
+unfoldable pub with_ranges : List ℕ → ℕ → Ranges → Raw
+with_ranges s first (all n rs) = with_tail first rs (tail_at s n)
+with_ranges s first (some c rs) = part c rs
 
-unfoldable pub withCount : List ℕ → Num → Raw
-withCount s (num.Value count n) = pick (eqb count 0) (end n) (withRanges s n (rangesAt count s n))
-withCount s (num.Bad c) = cut c
+unfoldable pub with_count : List ℕ → Num → Raw
+with_count s (num.Value count n) = pick (eqb count 0) (end n) (with_ranges s n (ranges_at count s n))
+with_count s (num.Bad c) = cut c
 
-unfoldable pub rawAt : List ℕ → ℕ → Raw
-rawAt s at = withCount s (num_at s at)
+unfoldable pub raw_at : List ℕ → ℕ → Raw
+raw_at s at = with_count s (num_at s at)
 
 -- a node on level 65 is refused once its range count is read and is not 0
-abbrev pub onLevel : {A : Type 0} → ℕ → A → A → A
-onLevel level deep other = pick (ltb 64 level) deep other
+abbrev pub on_level : {A : Type 0} → ℕ → A → A → A
+on_level level deep other = pick (ltb 64 level) deep other
 
 -- the head as a caller gets it, who judges no range and no call file
-abbrev pub wholeHead : Whole → Head
-wholeHead w =
+abbrev pub whole_head : Whole → Head
+whole_head w =
     head.Node (record {
       ranges = length w.self.ranges;
       first = w.first;
@@ -153,12 +153,12 @@ wholeHead w =
 unfoldable pub head_of : ℕ → Raw → Head
 head_of level (end n) = head.End n
 head_of level (cut c) = head.Bad (fault.Unread c)
-head_of level (part c rs) = onLevel level (head.Bad fault.Level) (head.Bad (fault.Unread c))
-head_of level (late c rs file) = onLevel level (head.Bad fault.Level) (head.Bad (fault.Unread c))
-head_of level (node w) = onLevel level (head.Bad fault.Level) (wholeHead w)
+head_of level (part c rs) = on_level level (head.Bad fault.Level) (head.Bad (fault.Unread c))
+head_of level (late c rs file) = on_level level (head.Bad fault.Level) (head.Bad (fault.Unread c))
+head_of level (node w) = on_level level (head.Bad fault.Level) (whole_head w)
 
-unfoldable pub headAt : List ℕ → ℕ → ℕ → Head
-headAt s level at = head_of level (rawAt s at)
+unfoldable pub head_at : List ℕ → ℕ → ℕ → Head
+head_at s level at = head_of level (raw_at s at)
 
 -- ranges that are passed over
 unfoldable pub place_of : Ranges → Place

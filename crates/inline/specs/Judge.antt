@@ -6,8 +6,8 @@
 use Rattle.std.specs.Prelude.{ℕ, ◌+◌, List, Bool, ltb}
 use Rattle.reads.specs.Pick.{pick}
 use Rattle.inline.specs.Tree.{Range}
-use Rattle.inline.specs.Frames.{in_range, anyIn, firstOff, childBase}
-use Rattle.inline.specs.Fits.{mostFile, tooLarge, anyLarge}
+use Rattle.inline.specs.Frames.{in_range, any_in, first_off, child_base}
+use Rattle.inline.specs.Fits.{most_file, too_large, any_large}
 use Rattle.inline.specs.Head.{
   One,
   one,
@@ -22,8 +22,8 @@ use Rattle.inline.specs.Head.{
   part,
   late,
   node,
-  rawAt,
-  onLevel,
+  raw_at,
+  on_level,
 }
 use Rattle.inline.specs.declared.head.Fault.{Fault}
 use Rattle.inline.specs.declared.head.Fault.TheVariants as fault
@@ -37,60 +37,60 @@ use Rattle.inline.specs.declared.judge.Seen.{Seen}
 use Rattle.inline.specs.declared.judge.Seen.TheVariants as seen
 
 -- 13 and 11: what `bad` makes of the fault of a node with these ranges, else `fits`
-abbrev pub rangesFit : {A : Type 0} → (Fault → A) → Ctx → List Range → A → A
-rangesFit bad c rs fits =
-    onLevel c.level (bad fault.Level)
-    (pick (anyLarge c.base rs) (bad fault.Sum) fits)
+abbrev pub ranges_fit : {A : Type 0} → (Fault → A) → Ctx → List Range → A → A
+ranges_fit bad c rs fits =
+    on_level c.level (bad fault.Level)
+    (pick (any_large c.base rs) (bad fault.Sum) fits)
 
 -- 12: a call file above 4,294,967,295
-abbrev pub fileFits : {A : Type 0} → (Fault → A) → ℕ → A → A
-fileFits bad file fits = pick (ltb mostFile file) (bad fault.CallFile) fits
+abbrev pub file_fits : {A : Type 0} → (Fault → A) → ℕ → A → A
+file_fits bad file fits = pick (ltb most_file file) (bad fault.CallFile) fits
 
 -- a node without a fault: where its children's offsets count from, whether it contains the address, and what it says
-abbrev pub judgedOf : Ctx → Whole → Judged
-judgedOf c w = record {
+abbrev pub judged_of : Ctx → Whole → Judged
+judged_of c w = record {
   next = w.next;
-  base = childBase c.base w.self;
-  inside = anyIn c.addr c.base w.self.ranges;
+  base = child_base c.base w.self;
+  inside = any_in c.addr c.base w.self.ranges;
   kids = w.kids;
   name = w.self.name;
   file = w.self.file;
   line = w.self.line;
 }
 
-unfoldable pub seenOf : Ctx → Raw → Seen
-seenOf c (end n) = seen.End n
-seenOf c (cut k) = seen.Bad (fault.Unread k)
-seenOf c (part k rs) = rangesFit seen.Bad c rs (seen.Bad (fault.Unread k))
-seenOf c (late k rs file) = rangesFit seen.Bad c rs (fileFits seen.Bad file (seen.Bad (fault.Unread k)))
-seenOf c (node w) =
-    rangesFit seen.Bad c w.self.ranges (fileFits seen.Bad w.self.file (seen.Node (judgedOf c w)))
+unfoldable pub seen_of : Ctx → Raw → Seen
+seen_of c (end n) = seen.End n
+seen_of c (cut k) = seen.Bad (fault.Unread k)
+seen_of c (part k rs) = ranges_fit seen.Bad c rs (seen.Bad (fault.Unread k))
+seen_of c (late k rs file) = ranges_fit seen.Bad c rs (file_fits seen.Bad file (seen.Bad (fault.Unread k)))
+seen_of c (node w) =
+    ranges_fit seen.Bad c w.self.ranges (file_fits seen.Bad w.self.file (seen.Node (judged_of c w)))
 
 unfoldable pub seen_at : List ℕ → Ctx → ℕ → Seen
-seen_at s c at = seenOf c (rawAt s at)
+seen_at s c at = seen_of c (raw_at s at)
 
 -- ---- what the parts of a judged head come to
 
 -- one range: the place after it, its start, and whether it contains the address
 unfoldable pub span_of : Ctx → One → Span
 span_of c (one r n) =
-    pick (tooLarge c.base r) (span.Bad fault.Sum)
+    pick (too_large c.base r) (span.Bad fault.Sum)
     (span.At n (c.base + r.off) (in_range c.addr c.base r))
 span_of c (unread k) = span.Bad (fault.Unread k)
 
 -- all ranges: the place after them, the start of the first, and whether one of them contains the address
-unfoldable pub spansOf : Ctx → Ranges → Span
-spansOf c (all n rs) =
-    pick (anyLarge c.base rs) (span.Bad fault.Sum)
-    (span.At n (c.base + firstOff rs) (anyIn c.addr c.base rs))
-spansOf c (some k rs) = pick (anyLarge c.base rs) (span.Bad fault.Sum) (span.Bad (fault.Unread k))
+unfoldable pub spans_of : Ctx → Ranges → Span
+spans_of c (all n rs) =
+    pick (any_large c.base rs) (span.Bad fault.Sum)
+    (span.At n (c.base + first_off rs) (any_in c.addr c.base rs))
+spans_of c (some k rs) = pick (any_large c.base rs) (span.Bad fault.Sum) (span.Bad (fault.Unread k))
 
 -- what follows the ranges, with the first range's start and whether the node contains the address
 unfoldable pub end_of : ℕ → Bool → Tail → Seen
 end_of start inside (tail.Cut k) = seen.Bad (fault.Unread k)
-end_of start inside (tail.Late file k) = fileFits seen.Bad file (seen.Bad (fault.Unread k))
+end_of start inside (tail.Late file k) = file_fits seen.Bad file (seen.Bad (fault.Unread k))
 end_of start inside (tail.Whole t) =
-    fileFits seen.Bad t.file (seen.Node (record {
+    file_fits seen.Bad t.file (seen.Node (record {
       next = t.next;
       base = start;
       inside = inside;

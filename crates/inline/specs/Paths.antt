@@ -14,8 +14,8 @@ use Rattle.std.proofs.Math.Option.{Option, none as nowhere, some}
 use Rattle.types.specs.declared.InlineFrame.{InlineFrame}
 use Rattle.reads.specs.Pick.{pick}
 use Rattle.inline.specs.Tree.{Range, Node, Forest, none, tree}
-use Rattle.inline.specs.Frames.{anyIn, childBase, frame_of}
-use Rattle.inline.specs.Fits.{mostAddress, mostFile}
+use Rattle.inline.specs.Frames.{any_in, child_base, frame_of}
+use Rattle.inline.specs.Fits.{most_address, most_file}
 
 -- ---- paths
 
@@ -55,16 +55,16 @@ pub record Placed : Type 0 where
   pub node : Node
 
 -- the node at a path, if there is one: the top level counts from a given base, children from their parent's first range
-unfoldable pub nodeAt : ℕ → Forest → NodePath → Option Placed
-nodeAt base none p = nowhere
-nodeAt base (tree n kids rest) (top zero) = some (record { base = base; node = n })
-nodeAt base (tree n kids rest) (top (suc i)) = nodeAt base rest (top i)
-nodeAt base (tree n kids rest) (under zero p) = nodeAt (childBase base n) kids p
-nodeAt base (tree n kids rest) (under (suc i) p) = nodeAt base rest (under i p)
+unfoldable pub node_at : ℕ → Forest → NodePath → Option Placed
+node_at base none p = nowhere
+node_at base (tree n kids rest) (top zero) = some (record { base = base; node = n })
+node_at base (tree n kids rest) (top (suc i)) = node_at base rest (top i)
+node_at base (tree n kids rest) (under zero p) = node_at (child_base base n) kids p
+node_at base (tree n kids rest) (under (suc i) p) = node_at base rest (under i p)
 
 -- its frame
 abbrev pub frame_at : ℕ → Forest → NodePath → Option InlineFrame
-frame_at base forest p = Option.map (λ x. frame_of x.node) (nodeAt base forest p)
+frame_at base forest p = Option.map (λ x. frame_of x.node) (node_at base forest p)
 
 -- ---- open and judged nodes
 
@@ -79,7 +79,7 @@ pub record Contains (addr base : ℕ) (n : Node) : Type 0 where
 -- there is a node at the path, and it contains the address
 pub record Holds (addr base : ℕ) (forest : Forest) (p : NodePath) : Type 0 where
   pub place : Placed
-  pub there : nodeAt base forest p ≡ some place
+  pub there : node_at base forest p ≡ some place
   pub contains : Contains addr place.base place.node
 
 -- there is a node at the path, and it and all its ancestors contain the address
@@ -96,7 +96,7 @@ pub data Judged (addr base : ℕ) (forest : Forest) (p : NodePath) : Type 0 wher
 -- there is a node at the path, its name is not 0, and it is open
 pub record IsFrame (addr base : ℕ) (forest : Forest) (p : NodePath) : Type 0 where
   pub place : Placed
-  pub there : nodeAt base forest p ≡ some place
+  pub there : node_at base forest p ≡ some place
   pub named : place.node.name ≡ 0 → ⊥
   pub opened : Open addr base forest p
 
@@ -123,23 +123,23 @@ pub record ListsByPaths (addr base : ℕ) (forest : Forest) (ps : List NodePath)
 
 -- every range of the node starts and ends at most at the largest address, and its call file is at most the limit
 pub record NodeFits (base : ℕ) (n : Node) : Type 0 where
-  pub starts : (r : Range) → Memᴰ r n.ranges → base + r.off ≤ mostAddress
-  pub ends : (r : Range) → Memᴰ r n.ranges → base + r.off + r.size ≤ mostAddress
-  pub file : n.file ≤ mostFile
+  pub starts : (r : Range) → Memᴰ r n.ranges → base + r.off ≤ most_address
+  pub ends : (r : Range) → Memᴰ r n.ranges → base + r.off + r.size ≤ most_address
+  pub file : n.file ≤ most_file
 
 -- every judged node does so
 abbrev pub JudgedFit : ℕ → ℕ → Forest → Type 0
 JudgedFit addr base forest =
-    (p : NodePath) (x : Placed) → nodeAt base forest p ≡ some x → Judged addr base forest p →
+    (p : NodePath) (x : Placed) → node_at base forest p ≡ some x → Judged addr base forest p →
     NodeFits x.base x.node
 
 -- no node stands on a level (any base will do)
 abbrev pub NoneOn : ℕ → ℕ → Forest → Type 0
-NoneOn l base forest = (p : NodePath) (x : Placed) → nodeAt base forest p ≡ some x → level p ≡ l → ⊥
+NoneOn l base forest = (p : NodePath) (x : Placed) → node_at base forest p ≡ some x → level p ≡ l → ⊥
 
 -- no node stands below a level
 abbrev pub NoneBelow : ℕ → ℕ → Forest → Type 0
-NoneBelow l base forest = (p : NodePath) (x : Placed) → nodeAt base forest p ≡ some x → level p ≤ l
+NoneBelow l base forest = (p : NodePath) (x : Placed) → node_at base forest p ≡ some x → level p ≤ l
 
 -- ---- the list of paths
 
@@ -149,12 +149,12 @@ later (top i) = top (suc i)
 later (under i p) = under (suc i) p
 
 -- a first node's own path: none where its name is 0
-abbrev pub ownPath : Node → List NodePath
-ownPath n = pick (eqb n.name 0) [] (top 0 ∷ [])
+abbrev pub own_path : Node → List NodePath
+own_path n = pick (eqb n.name 0) [] (top 0 ∷ [])
 
 -- the paths of the frames, in the order of `frames`
-unfoldable pub framePaths : ℕ → ℕ → Forest → List NodePath
-framePaths addr base none = []
-framePaths addr base (tree n kids rest) =
-    pick (anyIn addr base n.ranges) (ownPath n ++ map (under 0) (framePaths addr (childBase base n) kids)) []
-    ++ map later (framePaths addr base rest)
+unfoldable pub frame_paths : ℕ → ℕ → Forest → List NodePath
+frame_paths addr base none = []
+frame_paths addr base (tree n kids rest) =
+    pick (any_in addr base n.ranges) (own_path n ++ map (under 0) (frame_paths addr (child_base base n) kids)) []
+    ++ map later (frame_paths addr base rest)

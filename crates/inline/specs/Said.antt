@@ -4,10 +4,10 @@ use Rattle.std.specs.Prelude.{ℕ, ◌+◌, List, Bool, true, false}
 use Rattle.types.specs.declared.InlineFrame.{InlineFrame}
 use Rattle.reads.specs.Pick.{pick}
 use Rattle.inline.specs.Tree.{Node, Forest, none, tree}
-use Rattle.inline.specs.Frames.{anyIn, childBase, frame_of}
-use Rattle.inline.specs.Head.{onLevel}
-use Rattle.inline.specs.Judge.{rangesFit, fileFits}
-use Rattle.inline.specs.Walk.{Out, past, bad, Put, full, put, putFrame, below}
+use Rattle.inline.specs.Frames.{any_in, child_base, frame_of}
+use Rattle.inline.specs.Head.{on_level}
+use Rattle.inline.specs.Judge.{ranges_fit, file_fits}
+use Rattle.inline.specs.Walk.{Out, past, bad, Put, full, put, put_frame, below}
 use Rattle.inline.specs.Torn.{Torn, stop, half, most, inside, after, Read, got, torn}
 use Rattle.inline.specs.declared.head.Fault.{Fault}
 use Rattle.inline.specs.declared.head.Fault.TheVariants as fault
@@ -18,18 +18,18 @@ pub data Said : Type 0 where
   wrong : Fault → Said
 
 -- nodes that are passed over and are all there: whether one of them, or one below them, stands on level 65
-unfoldable pub deepIn : ℕ → Forest → Bool
-deepIn level none = false
-deepIn level (tree self kids rest) = onLevel level true (pick (deepIn (level + 1) kids) true (deepIn level rest))
+unfoldable pub deep_in : ℕ → Forest → Bool
+deep_in level none = false
+deep_in level (tree self kids rest) = on_level level true (pick (deep_in (level + 1) kids) true (deep_in level rest))
 
 -- nodes that are passed over and break off: their first fault
-unfoldable pub faultOf : ℕ → Torn → Fault
-faultOf level (stop k) = fault.Unread k
-faultOf level (half k rs) = onLevel level fault.Level (fault.Unread k)
-faultOf level (most k rs file) = onLevel level fault.Level (fault.Unread k)
-faultOf level (inside self kids) = onLevel level fault.Level (faultOf (level + 1) kids)
-faultOf level (after self kids rest) =
-    onLevel level fault.Level (pick (deepIn (level + 1) kids) fault.Level (faultOf level rest))
+unfoldable pub fault_of : ℕ → Torn → Fault
+fault_of level (stop k) = fault.Unread k
+fault_of level (half k rs) = on_level level fault.Level (fault.Unread k)
+fault_of level (most k rs file) = on_level level fault.Level (fault.Unread k)
+fault_of level (inside self kids) = on_level level fault.Level (fault_of (level + 1) kids)
+fault_of level (after self kids rest) =
+    on_level level fault.Level (pick (deep_in (level + 1) kids) fault.Level (fault_of level rest))
 
 -- what comes after the frames so far, unless there was a fault
 unfoldable pub and_then : (List InlineFrame → Said) → Said → Said
@@ -40,50 +40,50 @@ unfoldable pub or_else : (List InlineFrame → Fault) → Said → Fault
 or_else go (fine acc) = go acc
 or_else go (wrong f) = f
 
-unfoldable pub saidPut : Put → Said
-saidPut full = wrong fault.Room
-saidPut (put acc) = fine acc
+unfoldable pub said_put : Put → Said
+said_put full = wrong fault.Room
+said_put (put acc) = fine acc
 
 -- a judged node: its own faults, then `opened` or `shut`, by whether it contains the address
-abbrev pub judgedNode : {A : Type 0} → (Fault → A) → Ctx → Node → A → A → A
-judgedNode told c self opened shut =
-    rangesFit told c self.ranges
-    (fileFits told self.file
-    (pick (anyIn c.addr c.base self.ranges) opened shut))
+abbrev pub judged_node : {A : Type 0} → (Fault → A) → Ctx → Node → A → A → A
+judged_node told c self opened shut =
+    ranges_fit told c self.ranges
+    (file_fits told self.file
+    (pick (any_in c.addr c.base self.ranges) opened shut))
 
 -- the context of a node's children
-abbrev pub belowNode : Ctx → Node → Ctx
-belowNode c self = below c (childBase c.base self)
+abbrev pub below_node : Ctx → Node → Ctx
+below_node c self = below c (child_base c.base self)
 
 -- judged nodes that are all there, after the frames so far
-unfoldable pub sayForest : Ctx → Forest → List InlineFrame → Said
-sayForest c none acc = fine acc
-sayForest c (tree self kids rest) acc =
-    and_then (sayForest c rest)
-    (judgedNode wrong c self
-    (and_then (sayForest (belowNode c self) kids) (saidPut (putFrame c (frame_of self) acc)))
-    (pick (deepIn (c.level + 1) kids) (wrong fault.Level) (fine acc)))
+unfoldable pub say_forest : Ctx → Forest → List InlineFrame → Said
+say_forest c none acc = fine acc
+say_forest c (tree self kids rest) acc =
+    and_then (say_forest c rest)
+    (judged_node wrong c self
+    (and_then (say_forest (below_node c self) kids) (said_put (put_frame c (frame_of self) acc)))
+    (pick (deep_in (c.level + 1) kids) (wrong fault.Level) (fine acc)))
 
 -- judged nodes that break off: there is always a fault
-unfoldable pub sayTorn : Ctx → Torn → List InlineFrame → Fault
-sayTorn c (stop k) acc = fault.Unread k
-sayTorn c (half k rs) acc = rangesFit (λ f. f) c rs (fault.Unread k)
-sayTorn c (most k rs file) acc = rangesFit (λ f. f) c rs (fileFits (λ f. f) file (fault.Unread k))
-sayTorn c (inside self kids) acc =
-    judgedNode (λ f. f) c self
-    (or_else (sayTorn (belowNode c self) kids) (saidPut (putFrame c (frame_of self) acc)))
-    (faultOf (c.level + 1) kids)
-sayTorn c (after self kids rest) acc =
-    or_else (sayTorn c rest)
-    (judgedNode wrong c self
-    (and_then (sayForest (belowNode c self) kids) (saidPut (putFrame c (frame_of self) acc)))
-    (pick (deepIn (c.level + 1) kids) (wrong fault.Level) (fine acc)))
+unfoldable pub say_torn : Ctx → Torn → List InlineFrame → Fault
+say_torn c (stop k) acc = fault.Unread k
+say_torn c (half k rs) acc = ranges_fit (λ f. f) c rs (fault.Unread k)
+say_torn c (most k rs file) acc = ranges_fit (λ f. f) c rs (file_fits (λ f. f) file (fault.Unread k))
+say_torn c (inside self kids) acc =
+    judged_node (λ f. f) c self
+    (or_else (say_torn (below_node c self) kids) (said_put (put_frame c (frame_of self) acc)))
+    (fault_of (c.level + 1) kids)
+say_torn c (after self kids rest) acc =
+    or_else (say_torn c rest)
+    (judged_node wrong c self
+    (and_then (say_forest (below_node c self) kids) (said_put (put_frame c (frame_of self) acc)))
+    (pick (deep_in (c.level + 1) kids) (wrong fault.Level) (fine acc)))
 
 -- a list of judged nodes
 unfoldable pub out_of : ℕ → Said → Out
 out_of n (fine acc) = past n acc
 out_of n (wrong f) = bad f
 
-unfoldable pub sayRead : Ctx → Read → List InlineFrame → Out
-sayRead c (got n t) acc = out_of n (sayForest c t acc)
-sayRead c (torn t) acc = bad (sayTorn c t acc)
+unfoldable pub say_read : Ctx → Read → List InlineFrame → Out
+say_read c (got n t) acc = out_of n (say_forest c t acc)
+say_read c (torn t) acc = bad (say_torn c t acc)

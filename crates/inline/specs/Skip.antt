@@ -4,7 +4,7 @@
 -- Assumes nothing.
 use Rattle.std.specs.Prelude.{ℕ, zero, suc, ◌+◌, ◌-◌, ◌≤◌, ◌<◌, List, ◌≡◌, eqb, length}
 use Rattle.reads.specs.Pick.{pick}
-use Rattle.inline.specs.Head.{headAt}
+use Rattle.inline.specs.Head.{head_at}
 use Rattle.inline.specs.declared.head.Cause.TheVariants as cause
 use Rattle.inline.specs.declared.head.Fault.TheVariants as fault
 use Rattle.inline.specs.declared.head.Head.{Head}
@@ -15,32 +15,32 @@ use Rattle.inline.specs.declared.skipping.Passed.{Passed}
 use Rattle.inline.specs.declared.skipping.Passed.TheVariants as passed
 
 -- past a node whose children's list was passed
-abbrev pub overKids : Passed → Step
-overKids (passed.At n) = step.Past n
-overKids (passed.Bad f) = step.Bad f
+abbrev pub over_kids : Passed → Step
+over_kids (passed.At n) = step.Past n
+over_kids (passed.Bad f) = step.Bad f
 
 -- one node from its head, with `kids` for its children's list
 unfoldable pub after_head : (ℕ → Passed) → Head → Step
 after_head kids (head.End n) = step.End n
 after_head kids (head.Bad f) = step.Bad f
-after_head kids (head.Node h) = pick (eqb h.kids 0) (step.Past h.next) (overKids (kids h.next))
+after_head kids (head.Node h) = pick (eqb h.kids 0) (step.Past h.next) (over_kids (kids h.next))
 
 -- after one node the list goes on; its end ends it
-unfoldable pub thenSkip : (ℕ → Passed) → Step → Passed
-thenSkip go (step.End n) = passed.At n
-thenSkip go (step.Past n) = go n
-thenSkip go (step.Bad f) = passed.Bad f
+unfoldable pub then_skip : (ℕ → Passed) → Step → Passed
+then_skip go (step.End n) = passed.At n
+then_skip go (step.Past n) = go n
+then_skip go (step.Bad f) = passed.Bad f
 
 -- the list of nodes from a place on
-unfoldable pub skipList : ℕ → List ℕ → ℕ → ℕ → Passed
-skipList zero s level at = passed.Bad (fault.Unread cause.Short)
-skipList (suc fuel) s level at =
-    thenSkip (skipList fuel s level)
-    (after_head (skipList fuel s (level + 1)) (headAt s level at))
+unfoldable pub skip_list : ℕ → List ℕ → ℕ → ℕ → Passed
+skip_list zero s level at = passed.Bad (fault.Unread cause.Short)
+skip_list (suc fuel) s level at =
+    then_skip (skip_list fuel s level)
+    (after_head (skip_list fuel s (level + 1)) (head_at s level at))
 
 -- one node
-unfoldable pub skipNode : ℕ → List ℕ → ℕ → ℕ → Step
-skipNode fuel s level at = after_head (skipList fuel s (level + 1)) (headAt s level at)
+unfoldable pub skip_node : ℕ → List ℕ → ℕ → ℕ → Step
+skip_node fuel s level at = after_head (skip_list fuel s (level + 1)) (head_at s level at)
 
 -- ---- what `skip` and `skip_all` answer: with any fuel that is enough; and reading goes on, within the bytes
 
@@ -55,8 +55,8 @@ PassedGoes at len (passed.Bad f) = Unit {0}
 
 pub record Skipped (s : List ℕ) (level at : ℕ) (r : Step) : Type 0 where
   pub goes : StepGoes at (length s) r
-  pub says : (fuel : ℕ) → length s - at ≤ fuel → r ≡ skipNode fuel s level at
+  pub says : (fuel : ℕ) → length s - at ≤ fuel → r ≡ skip_node fuel s level at
 
 pub record SkippedAll (s : List ℕ) (level at : ℕ) (r : Passed) : Type 0 where
   pub goes : PassedGoes at (length s) r
-  pub says : (fuel : ℕ) → length s - at < fuel → r ≡ skipList fuel s level at
+  pub says : (fuel : ℕ) → length s - at < fuel → r ≡ skip_list fuel s level at

@@ -20,6 +20,6 @@ flat (f ∷ fs) = f.name.0 ∷ f.call_file.0 ∷ f.call_line.0 ∷ flat fs
 abbrev pub frame_at : ℕ → List ℕ → InlineFrame
 frame_at i xs = frame (get_or xs (3 * i) 0) (get_or xs (3 * i + 1) 0) (get_or xs (3 * i + 2) 0)
 
-unfoldable pub framesIn : ℕ → List ℕ → List InlineFrame
-framesIn zero xs = []
-framesIn (suc n) xs = framesIn n xs ++ frame_at n xs ∷ []
+unfoldable pub frames_in : ℕ → List ℕ → List InlineFrame
+frames_in zero xs = []
+frames_in (suc n) xs = frames_in n xs ++ frame_at n xs ∷ []

@@ -6,7 +6,7 @@
 use Rattle.std.specs.Prelude.{ℕ, zero, suc, List, eqb, length}
 use Rattle.reads.specs.Pick.{pick}
 use Rattle.inline.specs.Tree.{Range, Node, Forest, none, tree}
-use Rattle.inline.specs.Head.{Raw, end, cut, part, late, node, rawAt}
+use Rattle.inline.specs.Head.{Raw, end, cut, part, late, node, raw_at}
 use Rattle.inline.specs.declared.head.Cause.{Cause}
 use Rattle.inline.specs.declared.head.Cause.TheVariants as cause
 
@@ -24,28 +24,28 @@ pub data Read : Type 0 where
   got : ℕ → Forest → Read
   torn : Torn → Read
 
-unfoldable pub withRest : Node → Forest → Read → Read
-withRest self kids (got n rest) = got n (tree self kids rest)
-withRest self kids (torn rest) = torn (after self kids rest)
+unfoldable pub with_rest : Node → Forest → Read → Read
+with_rest self kids (got n rest) = got n (tree self kids rest)
+with_rest self kids (torn rest) = torn (after self kids rest)
 
 unfoldable pub with_list : (ℕ → Read) → Node → Read → Read
-with_list go self (got n kids) = withRest self kids (go n)
+with_list go self (got n kids) = with_rest self kids (go n)
 with_list go self (torn kids) = torn (inside self kids)
 
 -- from what stands at a place, with `kids` for a list of children and `go` for what comes after a node
-unfoldable pub readRaw : (ℕ → Read) → (ℕ → Read) → Raw → Read
-readRaw kids go (end n) = got n none
-readRaw kids go (cut k) = torn (stop k)
-readRaw kids go (part k rs) = torn (half k rs)
-readRaw kids go (late k rs file) = torn (most k rs file)
-readRaw kids go (node w) =
+unfoldable pub read_raw : (ℕ → Read) → (ℕ → Read) → Raw → Read
+read_raw kids go (end n) = got n none
+read_raw kids go (cut k) = torn (stop k)
+read_raw kids go (part k rs) = torn (half k rs)
+read_raw kids go (late k rs file) = torn (most k rs file)
+read_raw kids go (node w) =
     with_list go w.self (pick (eqb w.kids 0) (got w.next none) (kids w.next))
 
 -- the nodes from a place on, up to a range count of 0
-unfoldable pub readList : ℕ → List ℕ → ℕ → Read
-readList zero s at = torn (stop cause.Short)
-readList (suc fuel) s at = readRaw (readList fuel s) (readList fuel s) (rawAt s at)
+unfoldable pub read_list : ℕ → List ℕ → ℕ → Read
+read_list zero s at = torn (stop cause.Short)
+read_list (suc fuel) s at = read_raw (read_list fuel s) (read_list fuel s) (raw_at s at)
 
 -- a block: its root alone, or an empty tree where a range count of 0 stands instead
 unfoldable pub tree_of : List ℕ → Read
-tree_of bytes = readRaw (readList (length bytes) bytes) (λ n. got n none) (rawAt bytes 0)
+tree_of bytes = read_raw (read_list (length bytes) bytes) (λ n. got n none) (raw_at bytes 0)

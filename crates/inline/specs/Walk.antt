@@ -7,8 +7,8 @@ use Rattle.std.specs.Prelude.{ℕ, zero, suc, ◌+◌, ◌-◌, ◌≤◌, ◌<�
 use Rattle.types.specs.declared.InlineFrame.{InlineFrame}
 use Rattle.reads.specs.Pick.{pick}
 use Rattle.inline.specs.Judge.{seen_at}
-use Rattle.inline.specs.Skip.{skipList}
-use Rattle.inline.specs.Store.{frame, framesIn}
+use Rattle.inline.specs.Skip.{skip_list}
+use Rattle.inline.specs.Store.{frame, frames_in}
 use Rattle.inline.specs.declared.head.Cause.TheVariants as cause
 use Rattle.inline.specs.declared.head.Fault.{Fault}
 use Rattle.inline.specs.declared.head.Fault.TheVariants as fault
@@ -39,62 +39,62 @@ abbrev pub counted : InlineFrame → List InlineFrame
 counted f = pick (eqb f.name.0 0) [] (f ∷ [])
 
 -- 14: more frames than room
-unfoldable pub putFrame : Ctx → InlineFrame → List InlineFrame → Put
-putFrame c f acc = pick (ltb c.room (length (acc ++ counted f))) full (put (acc ++ counted f))
+unfoldable pub put_frame : Ctx → InlineFrame → List InlineFrame → Put
+put_frame c f acc = pick (ltb c.room (length (acc ++ counted f))) full (put (acc ++ counted f))
 
 -- the frame of a judged node
-abbrev pub frameIn : Judged → InlineFrame
-frameIn i = frame i.name i.file i.line
+abbrev pub frame_in : Judged → InlineFrame
+frame_in i = frame i.name i.file i.line
 
 -- one level down, with offsets that count from `base`
 abbrev pub below : Ctx → ℕ → Ctx
 below c base = record { level = c.level + 1; addr = c.addr; base = base; room = c.room }
 
 -- an open node: its frame, and then its children
-unfoldable pub afterPut : (ℕ → List InlineFrame → Out) → Judged → Put → Out
-afterPut kids i full = bad fault.Room
-afterPut kids i (put acc) = pick (eqb i.kids 0) (past i.next acc) (kids i.next acc)
+unfoldable pub after_put : (ℕ → List InlineFrame → Out) → Judged → Put → Out
+after_put kids i full = bad fault.Room
+after_put kids i (put acc) = pick (eqb i.kids 0) (past i.next acc) (kids i.next acc)
 
 -- a closed node: its children are passed over
-unfoldable pub afterSkip : List InlineFrame → Passed → Out
-afterSkip acc (passed.At n) = past n acc
-afterSkip acc (passed.Bad f) = bad f
+unfoldable pub after_skip : List InlineFrame → Passed → Out
+after_skip acc (passed.At n) = past n acc
+after_skip acc (passed.Bad f) = bad f
 
 -- a judged node, with `reads` for a list of judged nodes and `skips` for one that is passed over
-unfoldable pub afterJudged :
+unfoldable pub after_judged :
     (Ctx → ℕ → List InlineFrame → Out) → (ℕ → Passed) → Ctx → List InlineFrame → Judged → Out
-afterJudged reads skips c acc i =
+after_judged reads skips c acc i =
     pick i.inside
-    (afterPut (reads (below c i.base)) i (putFrame c (frameIn i) acc))
-    (pick (eqb i.kids 0) (past i.next acc) (afterSkip acc (skips i.next)))
+    (after_put (reads (below c i.base)) i (put_frame c (frame_in i) acc))
+    (pick (eqb i.kids 0) (past i.next acc) (after_skip acc (skips i.next)))
 
-unfoldable pub afterSeen : (Ctx → ℕ → List InlineFrame → Out) → (ℕ → Passed) → Ctx → List InlineFrame → Seen → Out
-afterSeen reads skips c acc (seen.End n) = ended n acc
-afterSeen reads skips c acc (seen.Bad f) = bad f
-afterSeen reads skips c acc (seen.Node i) = afterJudged reads skips c acc i
+unfoldable pub after_seen : (Ctx → ℕ → List InlineFrame → Out) → (ℕ → Passed) → Ctx → List InlineFrame → Seen → Out
+after_seen reads skips c acc (seen.End n) = ended n acc
+after_seen reads skips c acc (seen.Bad f) = bad f
+after_seen reads skips c acc (seen.Node i) = after_judged reads skips c acc i
 
 -- after one node the list goes on; its end ends it
-unfoldable pub thenSeen : (ℕ → List InlineFrame → Out) → Out → Out
-thenSeen go (ended n acc) = past n acc
-thenSeen go (past n acc) = go n acc
-thenSeen go (bad f) = bad f
+unfoldable pub then_seen : (ℕ → List InlineFrame → Out) → Out → Out
+then_seen go (ended n acc) = past n acc
+then_seen go (past n acc) = go n acc
+then_seen go (bad f) = bad f
 
 -- a list of judged nodes from a place on, with the frames so far
-unfoldable pub walkList : ℕ → List ℕ → Ctx → ℕ → List InlineFrame → Out
-walkList zero s c at acc = bad (fault.Unread cause.Short)
-walkList (suc fuel) s c at acc =
-    thenSeen (walkList fuel s c)
-    (afterSeen (walkList fuel s) (skipList fuel s (c.level + 1)) c acc (seen_at s c at))
+unfoldable pub walk_list : ℕ → List ℕ → Ctx → ℕ → List InlineFrame → Out
+walk_list zero s c at acc = bad (fault.Unread cause.Short)
+walk_list (suc fuel) s c at acc =
+    then_seen (walk_list fuel s c)
+    (after_seen (walk_list fuel s) (skip_list fuel s (c.level + 1)) c acc (seen_at s c at))
 
 -- one judged node
-unfoldable pub walkNode : ℕ → List ℕ → Ctx → ℕ → List InlineFrame → Out
-walkNode fuel s c at acc = afterSeen (walkList fuel s) (skipList fuel s (c.level + 1)) c acc (seen_at s c at)
+unfoldable pub walk_node : ℕ → List ℕ → Ctx → ℕ → List InlineFrame → Out
+walk_node fuel s c at acc = after_seen (walk_list fuel s) (skip_list fuel s (c.level + 1)) c acc (seen_at s c at)
 
 -- ---- what `push`, `node` and `children` answer; of a fault nothing is said of the store
 
-abbrev pub viewHeld : Held → List ℕ → Put
-viewHeld held.Full ys = full
-viewHeld (held.Now count) ys = put (framesIn count ys)
+abbrev pub view_held : Held → List ℕ → Put
+view_held held.Full ys = full
+view_held (held.Now count) ys = put (frames_in count ys)
 
 abbrev pub HeldGoes : ℕ → Held → Type 0
 HeldGoes room held.Full = Unit {0}
@@ -102,11 +102,11 @@ HeldGoes room (held.Now count) = count ≤ room
 
 pub record Pushed (c : Ctx) (f : InlineFrame) (xs : List ℕ) (count : ℕ) (ys : List ℕ) (r : Held) : Type 0 where
   pub goes : HeldGoes c.room r
-  pub same : viewHeld r ys ≡ putFrame c f (framesIn count xs)
+  pub same : view_held r ys ≡ put_frame c f (frames_in count xs)
 
 abbrev pub view : Walk → List ℕ → Out
-view (walk.End n count) ys = ended n (framesIn count ys)
-view (walk.Past n count) ys = past n (framesIn count ys)
+view (walk.End n count) ys = ended n (frames_in count ys)
+view (walk.Past n count) ys = past n (frames_in count ys)
 view (walk.Bad f) ys = bad f
 
 abbrev pub WalkGoes : ℕ → ℕ → ℕ → Walk → Type 0
@@ -116,8 +116,8 @@ WalkGoes at len room (walk.Bad f) = Unit {0}
 
 pub record Walked (s : List ℕ) (c : Ctx) (at : ℕ) (xs : List ℕ) (count : ℕ) (ys : List ℕ) (r : Walk) : Type 0 where
   pub goes : WalkGoes at (length s) c.room r
-  pub says : (fuel : ℕ) → length s - at ≤ fuel → view r ys ≡ walkNode fuel s c at (framesIn count xs)
+  pub says : (fuel : ℕ) → length s - at ≤ fuel → view r ys ≡ walk_node fuel s c at (frames_in count xs)
 
 pub record WalkedAll (s : List ℕ) (c : Ctx) (at : ℕ) (xs : List ℕ) (count : ℕ) (ys : List ℕ) (r : Walk) : Type 0 where
   pub goes : WalkGoes at (length s) c.room r
-  pub says : (fuel : ℕ) → length s - at < fuel → view r ys ≡ walkList fuel s c at (framesIn count xs)
+  pub says : (fuel : ℕ) → length s - at < fuel → view r ys ≡ walk_list fuel s c at (frames_in count xs)

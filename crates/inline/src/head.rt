@@ -1,7 +1,7 @@
 // A node's head, read with no address in mind: what it says and where its parts stand (document 01, "Inline tree").
 // Judging it at an address is left to `judge`.
 ghost use Rattle.std.specs.Prelude.{◌≡◌, ◌≤◌, min, length};
-ghost use Rattle.inline.specs.Head.{num_at, rangesAt, place_of, tail_at, headAt};
+ghost use Rattle.inline.specs.Head.{num_at, ranges_at, place_of, tail_at, head_at};
 
 use leb128::Unsigned;
 use reads::{Read8, Read32};
@@ -92,7 +92,7 @@ pub(crate) fn number_at(s: &[u8], at: usize) -> Num
 // Passes over ranges. Its caller starts inside the bytes or at their end.
 fn pass_ranges(s: &[u8], count: u64, at: usize) -> Place
     requires { at ≤ length s.now }
-    ensures { result ≡ place_of (rangesAt count s.now at) }
+    ensures { result ≡ place_of (ranges_at count s.now at) }
 {
     let mut left = count;
     let mut to = at;
@@ -150,7 +150,7 @@ fn tail_at(s: &[u8], at: usize) -> Tail
 // The head of the node at `at`, whose level the caller counts from 1 for the root: a whole head, the list's end, or the
 // first fault of 10 and 13 (document 01, "Inline tree").
 pub fn head_at(s: &[u8], level: usize, at: usize) -> Head
-    ensures { result ≡ headAt s.now level at }
+    ensures { result ≡ head_at s.now level at }
 {
     match number_at(s, at) {
         Num::Bad(c) => Head::Bad(Fault::Unread(c)),

@@ -2,8 +2,8 @@
 // tree"). Frames and children are left to `walk`.
 ghost use Rattle.std.specs.Prelude.{◌≡◌, true, false, ◌≤◌, leb, ltb, length};
 ghost use Rattle.reads.specs.Pick.{pick};
-ghost use Rattle.inline.specs.Head.{rangeAt, rangesAt, tail_at};
-ghost use Rattle.inline.specs.Judge.{span_of, spansOf, end_of, seen_at};
+ghost use Rattle.inline.specs.Head.{range_at, ranges_at, tail_at};
+ghost use Rattle.inline.specs.Judge.{span_of, spans_of, end_of, seen_at};
 
 use super::head::{Cause, Fault, Num, capped, number_at};
 use reads::{Read8, Read32};
@@ -82,7 +82,7 @@ fn chosen(first: bool, a: u64, b: u64) -> u64
 
 // One range: offset, size, start, end, in this order.
 fn range(s: &[u8], ctx: Ctx, at: usize) -> Span
-    ensures { result ≡ span_of ctx (rangeAt s.now at) }
+    ensures { result ≡ span_of ctx (range_at s.now at) }
 {
     match number_at(s, at) {
         Num::Bad(c) => Span::Bad(Fault::Unread(c)),
@@ -108,7 +108,7 @@ fn range(s: &[u8], ctx: Ctx, at: usize) -> Span
 // All ranges of a node. Its caller starts inside the bytes or at their end.
 fn ranges(s: &[u8], ctx: Ctx, count: u64, at: usize) -> Span
     requires { at ≤ length s.now }
-    ensures { result ≡ spansOf ctx (rangesAt count s.now at) }
+    ensures { result ≡ spans_of ctx (ranges_at count s.now at) }
 {
     let mut left = count;
     let mut to = at;

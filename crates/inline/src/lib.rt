@@ -11,7 +11,7 @@ mod skipping;
 mod walk;
 
 ghost use Rattle.std.specs.Prelude.{◌≡◌, ◌/◌, min};
-ghost use Rattle.inline.specs.Block.{nodeNo, faultNo, Lists};
+ghost use Rattle.inline.specs.Block.{node_no, fault_no, Lists};
 
 pub use head::{Cause, Fault, Head, NodeHead, head_at};
 use judge::Ctx;
@@ -28,7 +28,7 @@ pub struct Listed {
 
 // The refusal of inline bytes that don't read.
 fn node_number(cause: Cause) -> u8
-    ensures { result ≡ nodeNo cause }
+    ensures { result ≡ node_no cause }
 {
     match cause {
         Cause::Short => types::UNREAD_INLINE,
@@ -38,7 +38,7 @@ fn node_number(cause: Cause) -> u8
 
 // The refusal's number of a fault.
 fn fault_number(fault: Fault) -> u8
-    ensures { result ≡ faultNo fault }
+    ensures { result ≡ fault_no fault }
 {
     match fault {
         Fault::Unread(cause) => node_number(cause),

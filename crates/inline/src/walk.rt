@@ -1,7 +1,7 @@
 // The judging walk: a node reader and a child-list reader that call each other, with fewer bytes left each time round
 // (document 01, "Inline tree"). Frames go to the front of a lent list of numbers.
 ghost use Rattle.std.specs.Prelude.{◌*◌, ◌≤◌, length};
-ghost use Rattle.inline.specs.Walk.{frameIn, Pushed, Walked, WalkedAll};
+ghost use Rattle.inline.specs.Walk.{frame_in, Pushed, Walked, WalkedAll};
 
 use super::head::Fault;
 use super::judge::{Ctx, Judged, Seen, judge_at};
@@ -29,7 +29,7 @@ pub(crate) enum Walk {
 // Makes the frame of an open node, after the `count` frames there are. A name of 0 makes none.
 fn push(ctx: Ctx, node: Judged, store: &mut [u32], count: usize) -> Held
     requires { (count ≤ ctx.room) × (3 * ctx.room ≤ length store.old) }
-    ensures { Pushed ctx (frameIn node) store.old count store.new result }
+    ensures { Pushed ctx (frame_in node) store.old count store.new result }
 {
     if node.name == 0 {
         return Held::Now(count);

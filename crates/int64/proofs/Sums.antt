@@ -2,7 +2,7 @@
 -- Assumes nothing.
 use Rattle.std.proofs.Common.{◌≡◌, ℕ, ◌+◌, ◌%◌, ◌^◌, ◌<◌, ℤ, pos, ◌+ℤ◌, ◌-ℤ◌, ap, ◌∙◌, arith, w32, w64, Fits, SFits}
 use lib.Signed.{mag}
-use Rattle.int64.specs.Wrap.{number_of, bits_of, modZ, wrap}
+use Rattle.int64.specs.Wrap.{number_of, bits_of, mod_z, wrap}
 use Rattle.int64.proofs.Bits.{number-of-bits}
 use Rattle.int64.proofs.Wraps.{add-bits, add-bits-32, sub-bits}
 
@@ -30,11 +30,11 @@ difference-wraps {x} {y} {r} {a} {b} {s} fx fy ea eb es fs er fr =
 
 -- `add_to_u64` and `add_to_u32`, where a are the bits of d
 pub step-64 : {x a r : ℕ} {d : ℤ} → Fits w64 x → SFits w64 d → a ≡ bits_of (number_of (bits_of d))
-    → r ≡ (x + a) % 2 ^ 64 → r ≡ modZ (pos x +ℤ d) (2 ^ 64)
+    → r ≡ (x + a) % 2 ^ 64 → r ≡ mod_z (pos x +ℤ d) (2 ^ 64)
 step-64 {x} {a} {r} {d} fx fd ea er =
     er ∙ ap (λ n. (x + n) % 2 ^ 64) (told fd ea) ∙ add-bits (pos x) d fx.fits (omega (arith, fd.sfits))
 
 pub step-32 : {x a r : ℕ} {d : ℤ} → Fits w32 x → SFits w64 d → a ≡ bits_of (number_of (bits_of d))
-    → r ≡ (x + a % 2 ^ 32) % 2 ^ 32 → r ≡ modZ (pos x +ℤ d) (2 ^ 32)
+    → r ≡ (x + a % 2 ^ 32) % 2 ^ 32 → r ≡ mod_z (pos x +ℤ d) (2 ^ 32)
 step-32 {x} {a} {r} {d} fx fd ea er =
     er ∙ ap (λ n. (x + n % 2 ^ 32) % 2 ^ 32) (told fd ea) ∙ add-bits-32 x d fx.fits (omega (arith, fd.sfits))

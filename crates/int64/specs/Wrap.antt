@@ -25,10 +25,10 @@ abbrev pub bits_of : ℤ → ℕ
 bits_of z = of_z w64 z
 
 -- z modulo m, from 0 to m - 1 (m is not 0): -1 is m - 1, -m is 0
-abbrev pub modZ : ℤ → ℕ → ℕ
-modZ (pos n) m = n % m
-modZ (negsuc n) m = m - suc (n % m)
+abbrev pub mod_z : ℤ → ℕ → ℕ
+mod_z (pos n) m = n % m
+mod_z (negsuc n) m = m - suc (n % m)
 
 -- the number from -2^63 to 2^63 - 1 that differs from z by a multiple of 2^64
 unfoldable pub wrap : ℤ → ℤ
-wrap z = number_of (modZ z (2 ^ 64))
+wrap z = number_of (mod_z z (2 ^ 64))

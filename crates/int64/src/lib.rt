@@ -4,7 +4,7 @@
 #![tactic(auto)]
 
 ghost use Rattle.std.specs.Prelude.{◌≡◌, ◌^◌, pos, ◌+ℤ◌, ◌-ℤ◌, int_div, int_rem};
-ghost use Rattle.int64.specs.Wrap.{number_of, bits_of, modZ, wrap};
+ghost use Rattle.int64.specs.Wrap.{number_of, bits_of, mod_z, wrap};
 
 // The number that the bits of b say in two's complement: b below 2^63, and b - 2^64 from there on.
 pub fn of_bits(b: u64) -> i64
@@ -76,14 +76,14 @@ pub fn rem(a: u8, d: i64) -> i64
 
 // x + d modulo 2^64, as addresses wrap (01, line table). A negative d moves back.
 pub fn add_to_u64(x: u64, d: i64) -> u64
-    ensures { result ≡ modZ (pos x +ℤ d) (2 ^ 64) }
+    ensures { result ≡ mod_z (pos x +ℤ d) (2 ^ 64) }
 {
     std::num::wrapping_add_u64(x, to_bits(d))
 }
 
 // x + d modulo 2^32, as lines wrap (01, line table). Of d only the low 32 bits count.
 pub fn add_to_u32(x: u32, d: i64) -> u32
-    ensures { result ≡ modZ (pos x +ℤ d) (2 ^ 32) }
+    ensures { result ≡ mod_z (pos x +ℤ d) (2 ^ 32) }
 {
     let low = (to_bits(d) % 0x1_0000_0000) as u32;
     std::num::wrapping_add_u32(x, low)

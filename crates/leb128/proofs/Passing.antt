@@ -1,7 +1,7 @@
 -- What `pass_at` answers: the bytes passed are those of an unsigned number whose value is not kept.
 -- Assumes nothing.
 use Rattle.std.proofs.Common.{◌≡◌, ℕ, ◌+◌, ◌^◌, ◌<◌, ◌≤◌, List, length, get_or, ap, inl, inr, arith}
-use Rattle.leb128.specs.Answers.{passedFrom, passed_at}
+use Rattle.leb128.specs.Answers.{passed_from, passed_at}
 use Rattle.leb128.specs.declared.Passed.TheVariants as p
 use Rattle.leb128.proofs.Digits.{weight-le}
 use Rattle.leb128.proofs.Turn.{Sofar, begin, goes_on}
@@ -23,7 +23,7 @@ module _ (s : List ℕ) (at k i : ℕ) (h : Passing s at k i) where
 
   pub pass-ended : length s ≤ i → p.Short ≡ passed_at s at
   unfolding passed_at
-  pass-ended l = ap passedFrom (plain-ended s at h.low h.weight i h.sofar l)
+  pass-ended l = ap passed_from (plain-ended s at h.low h.weight i h.sofar l)
 
   module _ (l : i < length s) where
     -- before the tenth byte
@@ -35,7 +35,7 @@ module _ (s : List ℕ) (at k i : ℕ) (h : Passing s at k i) where
 
       pub pass-last : get_or s i 0 < 128 → p.Next (i + 1) ≡ passed_at s at
       unfolding passed_at
-      pass-last t = ap passedFrom (plain-last s at h.low h.weight i h.sofar l t (inr light)).1
+      pass-last t = ap passed_from (plain-last s at h.low h.weight i h.sofar l t (inr light)).1
 
       pub pass-more : get_or s i 0 < 256 → 128 ≤ get_or s i 0 → Passing s at (k + 1) (i + 1)
       pass-more z t =
@@ -57,8 +57,8 @@ module _ (s : List ℕ) (at k i : ℕ) (h : Passing s at k i) where
       pub pass-tenth : get_or s i 0 < 2 → p.Next (i + 1) ≡ passed_at s at
       unfolding passed_at
       pass-tenth t =
-          ap passedFrom (plain-last s at h.low h.weight i h.sofar l (omega arith) (inl (omega arith))).1
+          ap passed_from (plain-last s at h.low h.weight i h.sofar l (omega arith) (inl (omega arith))).1
 
       pub pass-above : 2 ≤ get_or s i 0 → p.Wide ≡ passed_at s at
       unfolding passed_at
-      pass-above t = ap passedFrom (plain-above s at h.low h.weight i h.sofar l heavy (omega arith))
+      pass-above t = ap passed_from (plain-above s at h.low h.weight i h.sofar l heavy (omega arith))

@@ -2,7 +2,7 @@
 -- Assumes nothing.
 use Rattle.std.proofs.Common.{◌≡◌, ℕ, ◌+◌, ◌*◌, ◌^◌, ◌<◌, ◌≤◌, ◌⊎◌, List, length, get_or, drop, ap, ⊎_elim, mul-le-mul_right, arith, le-ltb, lt-ltb}
 use Rattle.leb128.specs.Leb.{short, wide, digits, unsigned}
-use Rattle.leb128.specs.Answers.{unsignedAt}
+use Rattle.leb128.specs.Answers.{unsigned_at}
 use Rattle.leb128.specs.Ends.{Ends}
 use Rattle.leb128.specs.declared.Unsigned.TheVariants as u
 use Rattle.reads.proofs.Orders.{lt-or-ge}
@@ -12,12 +12,12 @@ use Rattle.leb128.proofs.Turn.{Sofar, tenth, used-up, ends, too_long}
 -- ---- by how the number ends
 
 module _ (s : List ℕ) (at : ℕ) where
-  plain-short : digits 10 (drop at s) ≡ short → u.Short ≡ unsignedAt s at
-  unfolding unsignedAt unsigned
+  plain-short : digits 10 (drop at s) ≡ short → u.Short ≡ unsigned_at s at
+  unfolding unsigned_at unsigned
   plain-short e = rw e
 
-  plain-long : digits 10 (drop at s) ≡ wide → u.Wide ≡ unsignedAt s at
-  unfolding unsignedAt unsigned
+  plain-long : digits 10 (drop at s) ≡ wide → u.Wide ≡ unsigned_at s at
+  unfolding unsigned_at unsigned
   plain-long e = rw e
 
 module _ {s : List ℕ} {at low w last next : ℕ} (h : Ends s at low w last next) where
@@ -34,12 +34,12 @@ module _ {s : List ℕ} {at low w last next : ℕ} (h : Ends s at low w last nex
         digit_room last w low 128 h.digit h.small,
       ))
 
-  plain_value : low + last * w < 2 ^ 64 → u.Value (low + last * w) next ≡ unsignedAt s at
-  unfolding unsignedAt unsigned
+  plain_value : low + last * w < 2 ^ 64 → u.Value (low + last * w) next ≡ unsigned_at s at
+  unfolding unsigned_at unsigned
   plain_value f = rw (h.whole, lt-ltb _ _ f, h.place)
 
-  plain-wide : w ≡ 2 ^ 63 → 1 < last → u.Wide ≡ unsignedAt s at
-  unfolding unsignedAt unsigned
+  plain-wide : w ≡ 2 ^ 63 → 1 < last → u.Wide ≡ unsigned_at s at
+  unfolding unsigned_at unsigned
   plain-wide q t =
       let f : 2 ^ 64 ≤ low + last * w = omega (arith, ap (λ x. last * x) q) in
       rw (h.whole, le-ltb _ _ f)
@@ -47,19 +47,19 @@ module _ {s : List ℕ} {at low w last next : ℕ} (h : Ends s at low w last nex
 -- ---- the ways out of the loop
 
 module _ (s : List ℕ) (at low w i : ℕ) (h : Sofar s at low w i) where
-  pub plain-ended : length s ≤ i → u.Short ≡ unsignedAt s at
+  pub plain-ended : length s ≤ i → u.Short ≡ unsigned_at s at
   plain-ended l = plain-short s at (used-up s at low w i h l)
 
   module _ (l : i < length s) where
     pub plain-last :
         get_or s i 0 < 128 → (get_or s i 0 ≤ 1) ⊎ (w < 2 ^ 63) →
-        (low + get_or s i 0 * w < 2 ^ 64) × (u.Value (low + get_or s i 0 * w) (i + 1) ≡ unsignedAt s at)
+        (low + get_or s i 0 * w < 2 ^ 64) × (u.Value (low + get_or s i 0 * w) (i + 1) ≡ unsigned_at s at)
     plain-last t o =
         let e = ends s at low w i h l t in
         let f = plain-room e o in
         (f, plain_value e f)
 
-    pub plain-above : 2 ^ 63 ≤ w → 1 < get_or s i 0 → u.Wide ≡ unsignedAt s at
+    pub plain-above : 2 ^ 63 ≤ w → 1 < get_or s i 0 → u.Wide ≡ unsigned_at s at
     plain-above q t =
         ⊎_elim
         (λ (p : get_or s i 0 < 128). plain-wide (ends s at low w i h l p) (tenth s at low w i h q) t)

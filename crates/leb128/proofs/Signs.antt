@@ -4,7 +4,7 @@ use Rattle.std.proofs.Common.{◌≡◌, ℕ, zero, suc, ◌+◌, ◌-◌, ◌*�
 use lib.Signed.{mag}
 use mir.ValLaws.{to_z_pos, to_z-neg, to_z-of_z}
 use Rattle.leb128.specs.Leb.{Leb, number, short, wide, digits, kept, complement, signed64, signed}
-use Rattle.leb128.specs.Answers.{signedAt}
+use Rattle.leb128.specs.Answers.{signed_at}
 use Rattle.leb128.specs.Ends.{Ends}
 use Rattle.leb128.specs.declared.Signed.{Signed}
 use Rattle.leb128.specs.declared.Signed.TheVariants as z
@@ -48,23 +48,23 @@ pub made :
 made r x n a f e q = ap (λ v. z.Value v n) (to_z-of_z w64 r (record { sfits = f }) ∙ e) ∙ q
 
 module _ (s : List ℕ) (at : ℕ) where
-  sign-short : digits 10 (drop at s) ≡ short → z.Short ≡ signedAt s at
-  unfolding signedAt signed
+  sign-short : digits 10 (drop at s) ≡ short → z.Short ≡ signed_at s at
+  unfolding signed_at signed
   sign-short e = rw e
 
-  sign-long : digits 10 (drop at s) ≡ wide → z.Wide ≡ signedAt s at
-  unfolding signedAt signed
+  sign-long : digits 10 (drop at s) ≡ wide → z.Wide ≡ signed_at s at
+  unfolding signed_at signed
   sign-long e = rw e
 
 module _ {s : List ℕ} {at low w last next : ℕ} (h : Ends s at low w last next) where
   found :
       (v : ℤ) → judged (low + last * w) (h.before + 1) ≡ number v (h.before + 1) →
-      z.Value v next ≡ signedAt s at
-  unfolding signedAt signed
+      z.Value v next ≡ signed_at s at
+  unfolding signed_at signed
   found v e = rw (h.whole, e, h.place)
 
-  refused : judged (low + last * w) (h.before + 1) ≡ wide → z.Wide ≡ signedAt s at
-  unfolding signedAt signed
+  refused : judged (low + last * w) (h.before + 1) ≡ wide → z.Wide ≡ signed_at s at
+  unfolding signed_at signed
   refused e = rw (h.whole, e)
 
   power : 128 ^ (h.before + 1) ≡ 128 * w
@@ -109,14 +109,14 @@ module _ {s : List ℕ} {at low w last next : ℕ} (h : Ends s at low w last nex
         o in
         (room, omega (arith, mul-le-mul_right w least, h.small))
 
-  sign-plus : last < 64 → low + last * w < 2 ^ 63 → z.Value (to_z w64 (low + last * w)) next ≡ signedAt s at
+  sign-plus : last < 64 → low + last * w < 2 ^ 63 → z.Value (to_z w64 (low + last * w)) next ≡ signed_at s at
   sign-plus t f =
       let m : last ≤ 63 = omega arith in
       found _ (plus-fits _ _ (omega (arith, power, mul-le-mul_right w m, h.small)) f)
 
   sign-minus :
       64 ≤ last → (128 - last) * w ≤ 2 ^ 63 → low < (128 - last) * w →
-      z.Value (to_z w64 (2 ^ 64 - 1 - ((128 - last) * w - low) + 1)) next ≡ signedAt s at
+      z.Value (to_z w64 (2 ^ 64 - 1 - ((128 - last) * w - low) + 1)) next ≡ signed_at s at
   sign-minus t f l =
       let k = (128 - last) * w - low - 1 in
       let b : 2 ^ 64 - suc k ≡ 2 ^ 64 - 1 - ((128 - last) * w - low) + 1 = omega arith in
@@ -125,7 +125,7 @@ module _ {s : List ℕ} {at low w last next : ℕ} (h : Ends s at low w last nex
       (minus-fits (low + last * w) (h.before + 1) k (omega (arith, power, mul-le-mul_right w t)) d (omega arith)
       ∙ ap (λ x. number (to_z w64 x) (h.before + 1)) b)
 
-  sign-wide : w ≡ 2 ^ 63 → 0 < last → last < 127 → z.Wide ≡ signedAt s at
+  sign-wide : w ≡ 2 ^ 63 → 0 < last → last < 127 → z.Wide ≡ signed_at s at
   sign-wide q y t =
       let m : last * w ≡ last * 2 ^ 63 = ap (λ x. last * x) q in
       let x = low + last * w in
@@ -140,7 +140,7 @@ module _ {s : List ℕ} {at low w last next : ℕ} (h : Ends s at low w last nex
 -- ---- the ways out of the loop
 
 module _ (s : List ℕ) (at low w i : ℕ) (h : Sofar s at low w i) where
-  pub signed-ended : length s ≤ i → z.Short ≡ signedAt s at
+  pub signed-ended : length s ≤ i → z.Short ≡ signed_at s at
   signed-ended l = sign-short s at (used-up s at low w i h l)
 
   module _ (l : i < length s) where
@@ -152,7 +152,7 @@ module _ (s : List ℕ) (at low w i : ℕ) (h : Sofar s at low w i) where
       signed-plus :
           get_or s i 0 < 64 →
           (low + get_or s i 0 * w < 2 ^ 63)
-          × (z.Value (to_z w64 (low + get_or s i 0 * w)) (i + 1) ≡ signedAt s at)
+          × (z.Value (to_z w64 (low + get_or s i 0 * w)) (i + 1) ≡ signed_at s at)
       signed-plus t =
           let e = ends s at low w i h l (omega arith) in
           let f = sign-room e (inr (inr other)) t in
@@ -163,7 +163,7 @@ module _ (s : List ℕ) (at low w i : ℕ) (h : Sofar s at low w i) where
           let least = (128 - get_or s i 0) * w in
           (least ≤ 2 ^ 63)
           × (low < least)
-          × (z.Value (to_z w64 (2 ^ 64 - 1 - (least - low) + 1)) (i + 1) ≡ signedAt s at)
+          × (z.Value (to_z w64 (2 ^ 64 - 1 - (least - low) + 1)) (i + 1) ≡ signed_at s at)
       signed-minus t y =
           let e = ends s at low w i h l y in
           let f = under-room e (inr (inr other)) t in
@@ -176,7 +176,7 @@ module _ (s : List ℕ) (at low w i : ℕ) (h : Sofar s at low w i) where
           (above < 2 ^ 63)
           × (64 * w < 2 ^ 63)
           × ((bits : ℕ) → bits < 2 ^ 64 → (bits + 64 * w) % 2 ^ 64 ≡ above →
-          z.Value (to_z w64 bits) (i + 1) ≡ signedAt s at)
+          z.Value (to_z w64 bits) (i + 1) ≡ signed_at s at)
       signed-last y =
           let b = get_or s i 0 in
           let e = ends s at low w i h l y in
@@ -202,7 +202,7 @@ module _ (s : List ℕ) (at low w i : ℕ) (h : Sofar s at low w i) where
 
     -- the tenth byte
     module _ (q : 2 ^ 63 ≤ w) where
-      pub signed-tenth-clear : get_or s i 0 ≡ 0 → z.Value (to_z w64 low) (i + 1) ≡ signedAt s at
+      pub signed-tenth-clear : get_or s i 0 ≡ 0 → z.Value (to_z w64 low) (i + 1) ≡ signed_at s at
       signed-tenth-clear t =
           let e = ends s at low w i h l (omega arith) in
           let f = sign-room e (inr (inl (omega arith))) (omega arith) in
@@ -211,7 +211,7 @@ module _ (s : List ℕ) (at low w i : ℕ) (h : Sofar s at low w i) where
 
       pub signed-tenth-set :
           get_or s i 0 ≡ 127 →
-          (low < 2 ^ 63) × (z.Value (to_z w64 (low + 2 ^ 63)) (i + 1) ≡ signedAt s at)
+          (low < 2 ^ 63) × (z.Value (to_z w64 (low + 2 ^ 63)) (i + 1) ≡ signed_at s at)
       signed-tenth-set t =
           let e = ends s at low w i h l (omega arith) in
           let f = under-room e (inl (omega arith)) (omega arith) in
@@ -222,7 +222,7 @@ module _ (s : List ℕ) (at low w i : ℕ) (h : Sofar s at low w i) where
             ap (λ x. z.Value (to_z w64 x) (i + 1)) v ∙ sign-minus e (omega arith) f.0 f.1,
           )
 
-      pub signed-tenth-wide : (get_or s i 0 ≡ 0 → ⊥) → (get_or s i 0 ≡ 127 → ⊥) → z.Wide ≡ signedAt s at
+      pub signed-tenth-wide : (get_or s i 0 ≡ 0 → ⊥) → (get_or s i 0 ≡ 127 → ⊥) → z.Wide ≡ signed_at s at
       signed-tenth-wide n m =
           ⊎_elim
           (λ (p : get_or s i 0 < 128).

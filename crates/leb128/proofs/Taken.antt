@@ -18,7 +18,7 @@ use Rattle.leb128.specs.Leb.{
   unsigned,
   signed,
 }
-use Rattle.leb128.specs.Answers.{unsignedFrom, passedFrom, signedFrom, unsignedAt, passed_at, signedAt}
+use Rattle.leb128.specs.Answers.{unsigned_from, passed_from, signed_from, unsigned_at, passed_at, signed_at}
 use Rattle.leb128.specs.declared.Unsigned.{Unsigned}
 use Rattle.leb128.specs.declared.Unsigned.TheVariants as u
 use Rattle.leb128.specs.declared.Passed.TheVariants as p
@@ -106,30 +106,30 @@ module _ (bs : List ℕ) (n : ℕ) where
 
 module _ (s : List ℕ) (at : ℕ) where
   pub unsigned-at-inv :
-      (v n : ℕ) → unsignedAt s at ≡ u.Value v n → (m : ℕ) × (unsigned (drop at s) ≡ number v m) × (n ≡ at + m)
-  unfolding unsignedAt
+      (v n : ℕ) → unsigned_at s at ≡ u.Value v n → (m : ℕ) × (unsigned (drop at s) ≡ number v m) × (n ≡ at + m)
+  unfolding unsigned_at
   unsigned-at-inv v n e = go (unsigned (drop at s)) e
     where
-      go : (d : Leb ℕ) → unsignedFrom at d ≡ u.Value v n → (m : ℕ) × (d ≡ number v m) × (n ≡ at + m)
+      go : (d : Leb ℕ) → unsigned_from at d ≡ u.Value v n → (m : ℕ) × (d ≡ number v m) × (n ≡ at + m)
       go (number x m) q = let a : x ≡ v = cc in let b : n ≡ at + m = cc in (m, ap (λ y. number y m) a, b)
       go short q = never (cc)
       go wide q = never (cc)
 
   pub signed-at-inv :
-      (v : ℤ) (n : ℕ) → signedAt s at ≡ z.Value v n → (m : ℕ) × (signed (drop at s) ≡ number v m) × (n ≡ at + m)
-  unfolding signedAt
+      (v : ℤ) (n : ℕ) → signed_at s at ≡ z.Value v n → (m : ℕ) × (signed (drop at s) ≡ number v m) × (n ≡ at + m)
+  unfolding signed_at
   signed-at-inv v n e = go (signed (drop at s)) e
     where
-      go : (d : Leb ℤ) → signedFrom at d ≡ z.Value v n → (m : ℕ) × (d ≡ number v m) × (n ≡ at + m)
+      go : (d : Leb ℤ) → signed_from at d ≡ z.Value v n → (m : ℕ) × (d ≡ number v m) × (n ≡ at + m)
       go (number x m) q = let a : x ≡ v = cc in let b : n ≡ at + m = cc in (m, ap (λ y. number y m) a, b)
       go short q = never (cc)
       go wide q = never (cc)
 
-  pub passed-inv : (n : ℕ) → passed_at s at ≡ p.Next n → (v : ℕ) × (unsignedAt s at ≡ u.Value v n)
+  pub passed-inv : (n : ℕ) → passed_at s at ≡ p.Next n → (v : ℕ) × (unsigned_at s at ≡ u.Value v n)
   unfolding passed_at
-  passed-inv n e = go (unsignedAt s at) e
+  passed-inv n e = go (unsigned_at s at) e
     where
-      go : (r : Unsigned) → passedFrom r ≡ p.Next n → (v : ℕ) × (r ≡ u.Value v n)
+      go : (r : Unsigned) → passed_from r ≡ p.Next n → (v : ℕ) × (r ≡ u.Value v n)
       go (u.Value v m) q = let a : m ≡ n = cc in (v, ap (u.Value v) a)
       go u.Short q = never (cc)
       go u.Wide q = never (cc)
@@ -138,7 +138,7 @@ module _ (s : List ℕ) (at : ℕ) where
   within k m n e t = (omega (arith, t.some), omega (arith, t.some, t.within, length-drop at s))
 
   -- reading goes on, and stays in the list
-  pub unsigned-next : (v n : ℕ) → unsignedAt s at ≡ u.Value v n → (at < n) × (n ≤ length s)
+  pub unsigned-next : (v n : ℕ) → unsigned_at s at ≡ u.Value v n → (at < n) × (n ≤ length s)
   unsigned-next v n e =
       let i = unsigned-at-inv v n e in
       within 10 i.0 n i.2 (unsigned-taken (drop at s) i.0 v i.1)
@@ -146,13 +146,13 @@ module _ (s : List ℕ) (at : ℕ) where
   pub passed-next : (n : ℕ) → passed_at s at ≡ p.Next n → (at < n) × (n ≤ length s)
   passed-next n e = let i = passed-inv n e in unsigned-next i.0 n i.1
 
-  pub signed-next : (v : ℤ) (n : ℕ) → signedAt s at ≡ z.Value v n → (at < n) × (n ≤ length s)
+  pub signed-next : (v : ℤ) (n : ℕ) → signed_at s at ≡ z.Value v n → (at < n) × (n ≤ length s)
   signed-next v n e =
       let i = signed-at-inv v n e in
       within 10 i.0 n i.2 (signed-taken (drop at s) i.0 v i.1)
 
-  pub unsigned-value-lt : (v n : ℕ) → unsignedAt s at ≡ u.Value v n → v < 2 ^ 64
+  pub unsigned-value-lt : (v n : ℕ) → unsigned_at s at ≡ u.Value v n → v < 2 ^ 64
   unsigned-value-lt v n e = let i = unsigned-at-inv v n e in unsigned-lt (drop at s) i.0 v i.1
 
-  pub signed-value-lt : (v : ℤ) (n : ℕ) → signedAt s at ≡ z.Value v n → mag v < 2 ^ 63
+  pub signed-value-lt : (v : ℤ) (n : ℕ) → signed_at s at ≡ z.Value v n → mag v < 2 ^ 63
   signed-value-lt v n e = let i = signed-at-inv v n e in signed_lt (drop at s) i.0 v i.1

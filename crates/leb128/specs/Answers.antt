@@ -11,30 +11,30 @@ use Rattle.leb128.specs.declared.Signed.{Signed}
 use Rattle.leb128.specs.declared.Signed.TheVariants as z
 
 -- what was found at a place, as an answer
-abbrev pub unsignedFrom : ℕ → Leb ℕ → Unsigned
-unsignedFrom at (number v n) = u.Value v (at + n)
-unsignedFrom at short = u.Short
-unsignedFrom at wide = u.Wide
+abbrev pub unsigned_from : ℕ → Leb ℕ → Unsigned
+unsigned_from at (number v n) = u.Value v (at + n)
+unsigned_from at short = u.Short
+unsigned_from at wide = u.Wide
 
-abbrev pub signedFrom : ℕ → Leb ℤ → Signed
-signedFrom at (number v n) = z.Value v (at + n)
-signedFrom at short = z.Short
-signedFrom at wide = z.Wide
+abbrev pub signed_from : ℕ → Leb ℤ → Signed
+signed_from at (number v n) = z.Value v (at + n)
+signed_from at short = z.Short
+signed_from at wide = z.Wide
 
 -- the unsigned number at a place
-unfoldable pub unsignedAt : List ℕ → ℕ → Unsigned
-unsignedAt s at = unsignedFrom at (unsigned (drop at s))
+unfoldable pub unsigned_at : List ℕ → ℕ → Unsigned
+unsigned_at s at = unsigned_from at (unsigned (drop at s))
 
 -- an answer without its value
-abbrev pub passedFrom : Unsigned → Passed
-passedFrom (u.Value v n) = p.Next n
-passedFrom u.Short = p.Short
-passedFrom u.Wide = p.Wide
+abbrev pub passed_from : Unsigned → Passed
+passed_from (u.Value v n) = p.Next n
+passed_from u.Short = p.Short
+passed_from u.Wide = p.Wide
 
 -- the place after the unsigned number at a place
 unfoldable pub passed_at : List ℕ → ℕ → Passed
-passed_at s at = passedFrom (unsignedAt s at)
+passed_at s at = passed_from (unsigned_at s at)
 
 -- the signed number at a place
-unfoldable pub signedAt : List ℕ → ℕ → Signed
-signedAt s at = signedFrom at (signed (drop at s))
+unfoldable pub signed_at : List ℕ → ℕ → Signed
+signed_at s at = signed_from at (signed (drop at s))

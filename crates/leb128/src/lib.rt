@@ -3,7 +3,7 @@
 #![tactic(auto)]
 
 ghost use Rattle.std.specs.Prelude.{◌≡◌};
-ghost use Rattle.leb128.specs.Answers.{unsignedAt, passed_at, signedAt};
+ghost use Rattle.leb128.specs.Answers.{unsigned_at, passed_at, signed_at};
 
 // The unsigned number at a place, and the place after it.
 // Short: the bytes end before the number does. Wide: it is 2^64 or above, or its tenth byte asks for another.
@@ -38,7 +38,7 @@ const TENTH: u64 = 0x8000_0000_0000_0000;
 // The unsigned number at `at` and the place after it. Short where the bytes end first, also past the end of `s`.
 // Wide where it is 2^64 or above or longer than ten bytes (document 01, "LEB128").
 pub fn unsigned_at(s: &[u8], at: usize) -> Unsigned
-    ensures { result ≡ unsignedAt s.now at }
+    ensures { result ≡ unsigned_at s.now at }
 {
     // The value of the bytes passed, and the weight of the next one, which counts them. The loop has the first nine:
     // with both bounds in one test it is compiled small, and into each caller.
@@ -100,7 +100,7 @@ pub fn pass_at(s: &[u8], at: usize) -> Passed
 // first, also past the end of `s`. Wide where it is below -2^63, above 2^63-1 or longer than ten bytes (document 01,
 // "LEB128").
 pub fn signed_at(s: &[u8], at: usize) -> Signed
-    ensures { result ≡ signedAt s.now at }
+    ensures { result ≡ signed_at s.now at }
 {
     // The value of the bytes passed, and the weight of the next one, as in `unsigned_at`.
     let mut low: u64 = 0;

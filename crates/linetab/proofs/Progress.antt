@@ -3,7 +3,7 @@
 use Rattle.std.proofs.Common.{◌≡◌, ℕ, zero, suc, ◌+◌, ◌<◌, ◌≤◌, Bool, true, false, eqb, List, length, get_or, ℤ, pos, negsuc, refl, subst, ⊎_elim, arith, le-ltb, lt-ltb}
 use Rattle.reads.specs.Pick.{pick}
 use Rattle.reads.proofs.Orders.{lt-or-ge}
-use Rattle.leb128.specs.Answers.{unsignedAt, signedAt}
+use Rattle.leb128.specs.Answers.{unsigned_at, signed_at}
 use Rattle.leb128.specs.declared.Unsigned.{Unsigned}
 use Rattle.leb128.specs.declared.Unsigned.TheVariants as u
 use Rattle.leb128.specs.declared.Signed.{Signed}
@@ -16,17 +16,17 @@ use Rattle.linetab.specs.declared.HeaderRead.TheVariants.{Is}
 use Rattle.linetab.specs.declared.RunResult.{RunResult}
 use Rattle.linetab.specs.declared.RunResult.TheVariants.{Ok, NewRow, End, Stopped, UsedUp}
 use Rattle.linetab.specs.Machine.{
-  headerWithFirst,
-  headerWithMax,
-  headerWithMin,
-  headerOf,
-  setFile,
-  advancePc,
-  advanceLine,
+  header_with_first,
+  header_with_max,
+  header_with_min,
+  header_of,
+  set_file,
+  advance_pc,
+  advance_line,
   range_of,
   moved,
-  unlessZero,
-  specialOf,
+  unless_zero,
+  special_of,
   opcode,
   step_of,
 }
@@ -54,27 +54,27 @@ module _ (at len : ℕ) (l : at < len) where
   pick-ahead true x y p q = p
   pick-ahead false x y p q = q
 
-  range-ahead : (z : ℤ) (x : RunResult) → Ahead at len x → Ahead at len (unlessZero z x)
+  range-ahead : (z : ℤ) (x : RunResult) → Ahead at len x → Ahead at len (unless_zero z x)
   range-ahead (pos zero) x p = l
   range-ahead (pos (suc n)) x p = p
   range-ahead (negsuc n) x p = p
 
   module _ (r : LineTableRow) where
-    file-ahead : (x : Unsigned) → ((v n : ℕ) → x ≡ u.Value v n → Onward (at + 1) len n) → Ahead at len (setFile r x)
-    unfolding setFile
+    file-ahead : (x : Unsigned) → ((v n : ℕ) → x ≡ u.Value v n → Onward (at + 1) len n) → Ahead at len (set_file r x)
+    unfolding set_file
     file-ahead (u.Value v n) p = let q = p v n refl in (omega arith, q.1)
     file-ahead u.Short p = l
     file-ahead u.Wide p = l
 
-    pc-ahead : (x : Unsigned) → ((v n : ℕ) → x ≡ u.Value v n → Onward (at + 1) len n) → Ahead at len (advancePc r x)
-    unfolding advancePc
+    pc-ahead : (x : Unsigned) → ((v n : ℕ) → x ≡ u.Value v n → Onward (at + 1) len n) → Ahead at len (advance_pc r x)
+    unfolding advance_pc
     pc-ahead (u.Value v n) p = let q = p v n refl in (omega arith, q.1)
     pc-ahead u.Short p = l
     pc-ahead u.Wide p = l
 
     line-ahead :
-        (x : Signed) → ((v : ℤ) (n : ℕ) → x ≡ z.Value v n → Onward (at + 1) len n) → Ahead at len (advanceLine r x)
-    unfolding advanceLine
+        (x : Signed) → ((v : ℤ) (n : ℕ) → x ≡ z.Value v n → Onward (at + 1) len n) → Ahead at len (advance_line r x)
+    unfolding advance_line
     line-ahead (z.Value v n) p = let q = p v n refl in (omega arith, q.1)
     line-ahead z.Short p = l
     line-ahead z.Wide p = l
@@ -82,14 +82,14 @@ module _ (at len : ℕ) (l : at < len) where
 module _ (h : LineTableHeader) (ops : List ℕ) where
   opcode-ahead :
       (r : LineTableRow) (at b : ℕ) → at < length ops → Ahead at (length ops) (opcode h ops r b (at + 1))
-  unfolding opcode specialOf moved
+  unfolding opcode special_of moved
   opcode-ahead r at b l =
       let one : Onward at (length ops) (at + 1) = (omega arith, omega arith) in
       let choice = pick-ahead at (length ops) l in
       choice (eqb b 0) _ _ one
-      (choice (eqb b 1) _ _ (file-ahead at (length ops) l r (unsignedAt ops (at + 1)) (unsigned-next ops (at + 1)))
-      (choice (eqb b 2) _ _ (pc-ahead at (length ops) l r (unsignedAt ops (at + 1)) (unsigned-next ops (at + 1)))
-      (choice (eqb b 3) _ _ (line-ahead at (length ops) l r (signedAt ops (at + 1)) (signed-next ops (at + 1)))
+      (choice (eqb b 1) _ _ (file-ahead at (length ops) l r (unsigned_at ops (at + 1)) (unsigned-next ops (at + 1)))
+      (choice (eqb b 2) _ _ (pc-ahead at (length ops) l r (unsigned_at ops (at + 1)) (unsigned-next ops (at + 1)))
+      (choice (eqb b 3) _ _ (line-ahead at (length ops) l r (signed_at ops (at + 1)) (signed-next ops (at + 1)))
       (range-ahead at (length ops) l (range_of h) _ one))))
 
   module _ (t : LineState) where
@@ -115,34 +115,34 @@ module _ (h : LineTableHeader) (ops : List ℕ) where
 module _ (s : List ℕ) (h : LineTableHeader) (n : ℕ) where
   first_next :
       (at : ℕ) (min max : ℤ) (x : Unsigned) → ((v m : ℕ) → x ≡ u.Value v m → Onward at (length s) m) →
-      headerWithFirst min max x ≡ Is h n → Onward at (length s) n
-  unfolding headerWithFirst
+      header_with_first min max x ≡ Is h n → Onward at (length s) n
+  unfolding header_with_first
   first_next at min max (u.Value v m) p e = let q : m ≡ n = cc in let o = p v m refl in (omega arith, omega arith)
   first_next at min max u.Short p e = never (cc)
   first_next at min max u.Wide p e = never (cc)
 
   max-next :
       (at : ℕ) (min : ℤ) (x : Signed) → ((v : ℤ) (m : ℕ) → x ≡ z.Value v m → Onward at (length s) m) →
-      headerWithMax s min x ≡ Is h n → Onward at (length s) n
-  unfolding headerWithMax
+      header_with_max s min x ≡ Is h n → Onward at (length s) n
+  unfolding header_with_max
   max-next at min (z.Value v m) p e =
       let o = p v m refl in
-      let f = first_next m min v (unsignedAt s m) (unsigned-next s m) e in
+      let f = first_next m min v (unsigned_at s m) (unsigned-next s m) e in
       (omega arith, f.1)
   max-next at min z.Short p e = never (cc)
   max-next at min z.Wide p e = never (cc)
 
   min-next :
       (at : ℕ) (x : Signed) → ((v : ℤ) (m : ℕ) → x ≡ z.Value v m → Onward at (length s) m) →
-      headerWithMin s x ≡ Is h n → Onward at (length s) n
-  unfolding headerWithMin
+      header_with_min s x ≡ Is h n → Onward at (length s) n
+  unfolding header_with_min
   min-next at (z.Value v m) p e =
       let o = p v m refl in
-      let f = max-next m v (signedAt s m) (signed-next s m) e in
+      let f = max-next m v (signed_at s m) (signed-next s m) e in
       (omega arith, f.1)
   min-next at z.Short p e = never (cc)
   min-next at z.Wide p e = never (cc)
 
-  pub header-next : (at : ℕ) → headerOf s at ≡ Is h n → Onward at (length s) n
-  unfolding headerOf
-  header-next at e = min-next at (signedAt s at) (signed-next s at) e
+  pub header-next : (at : ℕ) → header_of s at ≡ Is h n → Onward at (length s) n
+  unfolding header_of
+  header-next at e = min-next at (signed_at s at) (signed-next s at) e

@@ -3,10 +3,10 @@
 use Rattle.std.proofs.Common.{◌≡◌, ℕ, ◌+◌, ◌-◌, ◌*◌, ◌/◌, ◌%◌, ◌^◌, ◌<◌, ◌≤◌, Bool, List, length, get_or, ℤ, pos, negsuc, ◌+ℤ◌, sym, refl, ap, ◌∙◌, subst, arith, le-ltb, lt-ltb}
 use lib.Signed.{mag}
 use Rattle.reads.specs.Pick.{pick}
-use Rattle.int64.specs.Wrap.{number_of, bits_of, modZ, wrap}
+use Rattle.int64.specs.Wrap.{number_of, bits_of, mod_z, wrap}
 use Rattle.int64.proofs.Bits.{number-of-bits}
-use Rattle.int64.proofs.Wraps.{modZ-lt, modZ-add, modZ-32, modZ-bits, modZ-32-add-wrap}
-use Rattle.leb128.specs.Answers.{unsignedAt, signedAt}
+use Rattle.int64.proofs.Wraps.{mod_z-lt, mod_z-add, mod_z-32, mod_z-bits, mod_z-32-add-wrap}
+use Rattle.leb128.specs.Answers.{unsigned_at, signed_at}
 use Rattle.leb128.specs.declared.Unsigned.TheVariants as u
 use Rattle.leb128.specs.declared.Signed.TheVariants as z
 use Rattle.leb128.proofs.Taken.{unsigned-next, signed-next}
@@ -22,9 +22,9 @@ use Rattle.linetab.specs.declared.quick.Lead.{Lead}
 use Rattle.linetab.specs.declared.quick.Lead.TheVariants.{Made, Unsure}
 use Rattle.linetab.specs.declared.quick.Change.{Change}
 use Rattle.linetab.specs.declared.quick.Change.TheVariants.{To}
-use Rattle.linetab.specs.Machine.{state, setFile, advancePc, range_of, moved, specialOf, step_of}
-use Rattle.linetab.specs.Rows.{rowFrom, rowFor}
-use Rattle.linetab.specs.Quick.{Suits, rowBefore, Keeps, FileTo, LineTo, Leads}
+use Rattle.linetab.specs.Machine.{state, set_file, advance_pc, range_of, moved, special_of, step_of}
+use Rattle.linetab.specs.Rows.{row_from, row_for}
+use Rattle.linetab.specs.Quick.{Suits, row_before, Keeps, FileTo, LineTo, Leads}
 use Rattle.linetab.proofs.Factor.{product_small, quotient, quotient-back}
 use Rattle.linetab.proofs.Opcodes.{unless-zero, line_read, is-file, is-pc, is-line, is_special}
 use Rattle.linetab.proofs.Progress.{row-ahead}
@@ -53,19 +53,19 @@ module _ (ops : List ℕ) (at : ℕ) where
 
   module _ (l : at < length ops) where
     pub file-set :
-        (file v n : ℕ) → get_or ops at 0 ≡ 1 → u.Value v n ≡ unsignedAt ops (at + 1) →
+        (file v n : ℕ) → get_or ops at 0 ≡ 1 → u.Value v n ≡ unsigned_at ops (at + 1) →
         FileTo ops at file (To (v % 2 ^ 32) n)
-    unfolding setFile
+    unfolding set_file
     file-set file v n e r addr line = (
       omega (arith, unsigned-next ops (at + 1) v n (sym r)),
       λ h a b.
           on-ok h ops a b (state addr file line at) (state addr (v % 2 ^ 32) line n)
-          (sym (ap (setFile (state addr file line at).row) r ∙ is-file h ops (state addr file line at) l e)),
+          (sym (ap (set_file (state addr file line at).row) r ∙ is-file h ops (state addr file line at) l e)),
     )
 
     pub line-moved :
-        (line : ℕ) (d : ℤ) (on n : ℕ) → get_or ops at 0 ≡ 3 → z.Value d n ≡ signedAt ops (at + 1) →
-        on ≡ modZ (pos line +ℤ number_of (bits_of d)) (2 ^ 32) → LineTo ops at line (To on n)
+        (line : ℕ) (d : ℤ) (on n : ℕ) → get_or ops at 0 ≡ 3 → z.Value d n ≡ signed_at ops (at + 1) →
+        on ≡ mod_z (pos line +ℤ number_of (bits_of d)) (2 ^ 32) → LineTo ops at line (To on n)
     line-moved line d on n e r q addr file = (
       omega (arith, signed-next ops (at + 1) d n (sym r)),
       λ h a b.
@@ -75,13 +75,13 @@ module _ (ops : List ℕ) (at : ℕ) where
     )
 
     pub pc-made :
-        (addr file line v n to : ℕ) → get_or ops at 0 ≡ 2 → u.Value v n ≡ unsignedAt ops (at + 1) →
+        (addr file line v n to : ℕ) → get_or ops at 0 ≡ 2 → u.Value v n ≡ unsigned_at ops (at + 1) →
         to ≡ (addr + v) % 2 ^ 64 → (h : LineTableHeader) → Leads h ops (state addr file line at) (Made to file line n)
-    unfolding advancePc
+    unfolding advance_pc
     pc-made addr file line v n to e r q h =
         let t = state addr file line at in
         made-leads h ops t to file line n
-        (sym (ap (λ x. NewRow (state x file line n)) q ∙ ap (advancePc t.row) r ∙ is-pc h ops t l e))
+        (sym (ap (λ x. NewRow (state x file line n)) q ∙ ap (advance_pc t.row) r ∙ is-pc h ops t l e))
 
 module _ (h : LineTableHeader) (ops : List ℕ) (at addr file line : ℕ) (r : Change) (v n : ℕ) (x : Lead) where
   pub after-file :
@@ -89,10 +89,10 @@ module _ (h : LineTableHeader) (ops : List ℕ) (at addr file line : ℕ) (r : C
       Leads h ops (state addr file line at) x
   after-file k e y = keeps-leads h ops _ (state addr v line n) x (subst (FileTo ops at file) e k addr line) y
 
-  pub after_line :
+  pub after-line :
       LineTo ops at line r → r ≡ To v n → Leads h ops (state addr file v n) x →
       Leads h ops (state addr file line at) x
-  after_line k e y = keeps-leads h ops _ (state addr file v n) x (subst (LineTo ops at line) e k addr file) y
+  after-line k e y = keeps-leads h ops _ (state addr file v n) x (subst (LineTo ops at line) e k addr file) y
 
 -- ---- special opcodes
 
@@ -107,28 +107,28 @@ middle-32 x y z = omega arith
 
 -- a line may be moved by min modulo 2^32
 moved-line :
-    (line r : ℕ) (z : ℤ) → (line + modZ z (2 ^ 32) + r) % 2 ^ 32 ≡ modZ (pos line +ℤ wrap (z +ℤ pos r)) (2 ^ 32)
+    (line r : ℕ) (z : ℤ) → (line + mod_z z (2 ^ 32) + r) % 2 ^ 32 ≡ mod_z (pos line +ℤ wrap (z +ℤ pos r)) (2 ^ 32)
 moved-line line r z =
-    let b = modZ z (2 ^ 64) in
-    let c : modZ (z +ℤ pos r) (2 ^ 64) ≡ (b + r) % 2 ^ 64 = modZ-add z (pos r) ∙ omega arith in
-    let d : modZ (pos line +ℤ (z +ℤ pos r)) (2 ^ 64) ≡ (line + (b + r)) % 2 ^ 64 =
-    modZ-add (pos line) (z +ℤ pos r) ∙ ap (λ x. (line % 2 ^ 64 + x) % 2 ^ 64) c ∙ both-64 line (b + r) in
-    ap (λ x. (line + x + r) % 2 ^ 32) (sym (modZ-32 z))
+    let b = mod_z z (2 ^ 64) in
+    let c : mod_z (z +ℤ pos r) (2 ^ 64) ≡ (b + r) % 2 ^ 64 = mod_z-add z (pos r) ∙ omega arith in
+    let d : mod_z (pos line +ℤ (z +ℤ pos r)) (2 ^ 64) ≡ (line + (b + r)) % 2 ^ 64 =
+    mod_z-add (pos line) (z +ℤ pos r) ∙ ap (λ x. (line % 2 ^ 64 + x) % 2 ^ 64) c ∙ both-64 line (b + r) in
+    ap (λ x. (line + x + r) % 2 ^ 32) (sym (mod_z-32 z))
     ∙ middle-32 line b r
     ∙ sym (low_half (line + (b + r)))
     ∙ ap (λ x. x % 2 ^ 32) (sym d)
-    ∙ modZ-32 (pos line +ℤ (z +ℤ pos r))
-    ∙ sym (modZ-32-add-wrap (pos line) (z +ℤ pos r))
+    ∙ mod_z-32 (pos line +ℤ (z +ℤ pos r))
+    ∙ sym (mod_z-32-add-wrap (pos line) (z +ℤ pos r))
 
 module _ (h : LineTableHeader) (p : Plan) (s : Suits h p) where
   pub low-lt : p.low < 2 ^ 32
-  low-lt = omega (arith, s.least, modZ-lt h.min_delta (2 ^ 32) (omega arith))
+  low-lt = omega (arith, s.least, mod_z-lt h.min_delta (2 ^ 32) (omega arith))
 
   special-is :
       (addr file line a n to on : ℕ) → to ≡ (addr + a / p.range) % 2 ^ 64 →
       on ≡ (line + p.low + a % p.range) % 2 ^ 32 →
-      NewRow (state to file on n) ≡ specialOf h (state addr file line n).row a n
-  unfolding specialOf moved
+      NewRow (state to file on n) ≡ special_of h (state addr file line n).row a n
+  unfolding special_of moved
   special-is addr file line a n to on eT eL =
       let r = (state addr file line n).row in
       let nz : pos p.range ≡ pos 0 → ⊥ = λ z. let q : p.range ≡ 0 = cc in omega (arith, s.some) in
@@ -175,8 +175,8 @@ suited h fM range p fR eR eD some few eF eL =
       times = eF;
       least =
           eL ∙ ap (λ z. bits_of z % 2 ^ 32) (number-of-bits h.min_delta fM)
-          ∙ ap (λ n. n % 2 ^ 32) (sym (modZ-bits h.min_delta (omega arith)))
-          ∙ modZ-32 h.min_delta;
+          ∙ ap (λ n. n % 2 ^ 32) (sym (mod_z-bits h.min_delta (omega arith)))
+          ∙ mod_z-32 h.min_delta;
     }
   where
     small : (z : ℤ) → mag z < 2 ^ 63 → p.range ≡ bits_of z → z ≡ pos p.range
@@ -186,30 +186,30 @@ suited h fM range p fR eR eD some few eF eL =
 -- ---- the run, where the state is the last row made
 
 module _ (start : ℕ) (t : LineState) where
-  pub before-some : (r : LineTableRow) → r ≡ t.row → start < t.at → Row r ≡ rowBefore start t
+  pub before-some : (r : LineTableRow) → r ≡ t.row → start < t.at → Row r ≡ row_before start t
   before-some r e l = ap Row e ∙ ap (λ y. pick y (Row t.row) Nothing) (sym (lt-ltb start t.at l))
 
-  pub before-none : t.at ≤ start → Nothing ≡ rowBefore start t
+  pub before-none : t.at ≤ start → Nothing ≡ row_before start t
   before-none l = ap (λ y. pick y (Row t.row) Nothing) (sym (le-ltb start t.at l))
 
 -- the answer from the start is the one from t on
 abbrev pub Here : LineTableHeader → List ℕ → Address → LineState → LineState → Type 0
 Here h ops addr start t =
-    (start.at ≤ t.at) × (rowFor h ops start addr ≡ rowFrom h ops addr (rowBefore start.at t) t)
+    (start.at ≤ t.at) × (row_for h ops start addr ≡ row_from h ops addr (row_before start.at t) t)
 
 module _ (h : LineTableHeader) (ops : List ℕ) (addr : Address) (start : LineState) where
   pub at-start : Here h ops addr start start
-  unfolding rowFor
-  at-start = (omega arith, ap (λ y. rowFrom h ops addr y start) (before-none start.at start (omega arith)))
+  unfolding row_for
+  at-start = (omega arith, ap (λ y. row_from h ops addr y start) (before-none start.at start (omega arith)))
 
   module _ (t : LineState) (i : Here h ops addr start t) where
     pub from-here :
-        (b : RowFound) (r : LineTableRow) (f : RowFound) → b ≡ rowBefore start.at t → r ≡ t.row →
-        f ≡ rowFrom h ops addr b (record { row = r; at = t.at }) → f ≡ rowFor h ops start addr
+        (b : RowFound) (r : LineTableRow) (f : RowFound) → b ≡ row_before start.at t → r ≡ t.row →
+        f ≡ row_from h ops addr b (record { row = r; at = t.at }) → f ≡ row_for h ops start addr
     from-here b r f eB eR e =
         e
-        ∙ ap (λ y. rowFrom h ops addr y (record { row = r; at = t.at })) eB
-        ∙ ap (λ y. rowFrom h ops addr (rowBefore start.at t) (record { row = y; at = t.at })) eR
+        ∙ ap (λ y. row_from h ops addr y (record { row = r; at = t.at })) eB
+        ∙ ap (λ y. row_from h ops addr (row_before start.at t) (record { row = y; at = t.at })) eR
         ∙ sym i.1
 
     module _ (x : Lead) (k : Leads h ops t x) (a f l n : ℕ) (e : x ≡ Made a f l n) where
@@ -220,18 +220,18 @@ module _ (h : LineTableHeader) (ops : List ℕ) (addr : Address) (start : LineSt
       row_on = (leads.0, leads.1)
 
       abbrev chosen : Bool → RowFound
-      chosen y = pick y (rowBefore start.at t) (rowFrom h ops addr (Row (state a f l n).row) (state a f l n))
+      chosen y = pick y (row_before start.at t) (row_from h ops addr (Row (state a f l n).row) (state a f l n))
 
-      pub row-above : (r : RowFound) → r ≡ rowBefore start.at t → addr.0 < a → r ≡ rowFor h ops start addr
-      row-above r q p = q ∙ sym (i.1 ∙ leads.2 addr (rowBefore start.at t) ∙ ap chosen (lt-ltb addr.0 a p))
+      pub row-above : (r : RowFound) → r ≡ row_before start.at t → addr.0 < a → r ≡ row_for h ops start addr
+      row-above r q p = q ∙ sym (i.1 ∙ leads.2 addr (row_before start.at t) ∙ ap chosen (lt-ltb addr.0 a p))
 
       pub row_below : a ≤ addr.0 → Here h ops addr start (state a f l n)
       row_below p =
           let on : start.at < n = omega (arith, i.0, leads.0) in (
             omega arith,
             i.1
-                ∙ leads.2 addr (rowBefore start.at t)
+                ∙ leads.2 addr (row_before start.at t)
                 ∙ ap chosen (le-ltb addr.0 a p)
-                ∙ ap (λ y. rowFrom h ops addr y (state a f l n))
+                ∙ ap (λ y. row_from h ops addr y (state a f l n))
                 (before-some start.at (state a f l n) (state a f l n).row refl on),
           )

@@ -9,39 +9,39 @@ use Rattle.linetab.specs.declared.RunResult.TheVariants.{NewRow}
 use Rattle.linetab.specs.declared.RowFound.{RowFound}
 use Rattle.linetab.specs.declared.RowFound.TheVariants.{Row, Nothing}
 use Rattle.linetab.specs.Machine.{step_of}
-use Rattle.linetab.specs.Rows.{rowFrom, rowFor}
+use Rattle.linetab.specs.Rows.{row_from, row_for}
 use Rattle.linetab.specs.Reaches.{Reaches, here, ok, row}
-use Rattle.linetab.proofs.Runs.{Ends, on-ok, on_row, on-past, on-end}
+use Rattle.linetab.proofs.Runs.{Ends, on-ok, on-row, on-past, on-end}
 
 module _ (h : LineTableHeader) (ops : List ℕ) (addr : Address) where
   -- a run may be resumed where it was left
   pub resumed :
       {b c : RowFound} {t q : LineState} → Reaches h ops addr b t c q →
-      rowFrom h ops addr b t ≡ rowFrom h ops addr c q
+      row_from h ops addr b t ≡ row_from h ops addr c q
   resumed here = refl
   resumed {b} {c} {t} (ok e r) = on-ok h ops addr b t _ e ∙ resumed r
-  resumed {b} {c} {t} (row e l r) = on_row h ops addr b t _ e l ∙ resumed r
+  resumed {b} {c} {t} (row e l r) = on-row h ops addr b t _ e l ∙ resumed r
 
   module _ (t : LineState) where
     pub row-for-resumed :
         {c : RowFound} {q : LineState} → Reaches h ops addr Nothing t c q →
-        rowFor h ops t addr ≡ rowFrom h ops addr c q
-    unfolding rowFor
+        row_for h ops t addr ≡ row_from h ops addr c q
+    unfolding row_for
     row-for-resumed r = resumed r
 
     -- ---- the answers: `Nothing` in the place of the last row made says that none was made
 
     pub none_made :
         {q : LineState} → Reaches h ops addr Nothing t Nothing q → Ends (step_of h ops q) →
-        rowFor h ops t addr ≡ Nothing
+        row_for h ops t addr ≡ Nothing
     none_made {q} r z = row-for-resumed r ∙ on-end h ops addr Nothing q _ refl z
 
     pub present-state :
         {last : LineTableRow} {q : LineState} → Reaches h ops addr Nothing t (Row last) q → Ends (step_of h ops q) →
-        rowFor h ops t addr ≡ Row q.row
+        row_for h ops t addr ≡ Row q.row
     present-state {last} {q} r z = row-for-resumed r ∙ on-end h ops addr (Row last) q _ refl z
 
-    pub row_before :
+    pub row-before :
         {c : RowFound} {q v : LineState} → Reaches h ops addr Nothing t c q → step_of h ops q ≡ NewRow v →
-        addr.0 < v.row.addr.0 → rowFor h ops t addr ≡ c
-    row_before {c} {q} r e l = row-for-resumed r ∙ on-past h ops addr c q _ e l
+        addr.0 < v.row.addr.0 → row_for h ops t addr ≡ c
+    row-before {c} {q} r e l = row-for-resumed r ∙ on-past h ops addr c q _ e l

@@ -4,9 +4,9 @@ use Rattle.std.proofs.Common.{ℕ, zero, suc, ◌-◌, ◌^◌, ◌<◌, Bool, t
 use lib.Signed.{rem_z}
 use Rattle.reads.specs.Pick.{pick}
 use Rattle.int64.specs.Wrap.{wrap}
-use Rattle.int64.proofs.Wraps.{modZ-lt}
+use Rattle.int64.proofs.Wraps.{mod_z-lt}
 use Rattle.types.specs.declared.Address.{Address}
-use Rattle.leb128.specs.Answers.{unsignedAt, signedAt}
+use Rattle.leb128.specs.Answers.{unsigned_at, signed_at}
 use Rattle.leb128.specs.declared.Unsigned.{Unsigned}
 use Rattle.leb128.specs.declared.Unsigned.TheVariants as u
 use Rattle.leb128.specs.declared.Signed.{Signed}
@@ -22,10 +22,10 @@ use Rattle.linetab.specs.declared.RowFound.{RowFound}
 use Rattle.linetab.specs.declared.RowFound.TheVariants.{Row, Nothing}
 use Rattle.linetab.specs.declared.LineRead.{LineRead}
 use Rattle.linetab.specs.declared.LineRead.TheVariants as read
-use Rattle.linetab.specs.Machine.{headerWithFirst, headerWithMax, headerWithMin, headerOf, startRow, setFile}
-use Rattle.linetab.specs.Machine.{advancePc}
-use Rattle.linetab.specs.Machine.{advanceLine, range_of, moved, unlessZero, specialOf, opcode, step_of}
-use Rattle.linetab.specs.Rows.{atEnd, after, within, rowFrom, rowFor, found, behind, lineRow}
+use Rattle.linetab.specs.Machine.{header_with_first, header_with_max, header_with_min, header_of, start_row, set_file}
+use Rattle.linetab.specs.Machine.{advance_pc}
+use Rattle.linetab.specs.Machine.{advance_line, range_of, moved, unless_zero, special_of, opcode, step_of}
+use Rattle.linetab.specs.Rows.{at_end, after, within, row_from, row_for, found, behind, line_row}
 
 -- ---- what is below 2^32
 
@@ -61,59 +61,59 @@ picked P false x y p q = q
 
 -- ---- the header
 
-with_first : (min max : ℤ) (x : Unsigned) → HeaderSmall (headerWithFirst min max x)
-unfolding headerWithFirst
+with_first : (min max : ℤ) (x : Unsigned) → HeaderSmall (header_with_first min max x)
+unfolding header_with_first
 with_first min max (u.Value v n) = omega arith
 with_first min max u.Short = tt
 with_first min max u.Wide = tt
 
-with_max : (s : List ℕ) (min : ℤ) (x : Signed) → HeaderSmall (headerWithMax s min x)
-unfolding headerWithMax
-with_max s min (z.Value max n) = with_first min max (unsignedAt s n)
+with_max : (s : List ℕ) (min : ℤ) (x : Signed) → HeaderSmall (header_with_max s min x)
+unfolding header_with_max
+with_max s min (z.Value max n) = with_first min max (unsigned_at s n)
 with_max s min z.Short = tt
 with_max s min z.Wide = tt
 
-with_min : (s : List ℕ) (x : Signed) → HeaderSmall (headerWithMin s x)
-unfolding headerWithMin
-with_min s (z.Value min n) = with_max s min (signedAt s n)
+with_min : (s : List ℕ) (x : Signed) → HeaderSmall (header_with_min s x)
+unfolding header_with_min
+with_min s (z.Value min n) = with_max s min (signed_at s n)
 with_min s z.Short = tt
 with_min s z.Wide = tt
 
-header-small : (s : List ℕ) (at : ℕ) → HeaderSmall (headerOf s at)
-unfolding headerOf
-header-small s at = with_min s (signedAt s at)
+header-small : (s : List ℕ) (at : ℕ) → HeaderSmall (header_of s at)
+unfolding header_of
+header-small s at = with_min s (signed_at s at)
 
 -- ---- one opcode
 
 module _ (h : LineTableHeader) (ops : List ℕ) (r : LineTableRow) (l : Small r) where
-  file-small : (x : Unsigned) → StepSmall (setFile r x)
-  unfolding setFile
+  file-small : (x : Unsigned) → StepSmall (set_file r x)
+  unfolding set_file
   file-small (u.Value v n) = l
   file-small u.Short = tt
   file-small u.Wide = tt
 
-  pc-small : (x : Unsigned) → StepSmall (advancePc r x)
-  unfolding advancePc
+  pc-small : (x : Unsigned) → StepSmall (advance_pc r x)
+  unfolding advance_pc
   pc-small (u.Value v n) = l
   pc-small u.Short = tt
   pc-small u.Wide = tt
 
-  line_small : (x : Signed) → StepSmall (advanceLine r x)
-  unfolding advanceLine
-  line_small (z.Value d n) = modZ-lt (pos r.file_line.0 +ℤ d) (2 ^ 32) (omega arith)
+  line_small : (x : Signed) → StepSmall (advance_line r x)
+  unfolding advance_line
+  line_small (z.Value d n) = mod_z-lt (pos r.file_line.0 +ℤ d) (2 ^ 32) (omega arith)
   line_small z.Short = tt
   line_small z.Wide = tt
 
   moved-small : (a : ℕ) (range : ℤ) (n : ℕ) → Small (moved h r a range n).row
   unfolding moved
   moved-small a range n =
-      modZ-lt (pos r.file_line.0 +ℤ wrap (h.min_delta +ℤ rem_z (pos a) range)) (2 ^ 32) (omega arith)
+      mod_z-lt (pos r.file_line.0 +ℤ wrap (h.min_delta +ℤ rem_z (pos a) range)) (2 ^ 32) (omega arith)
 
-  special-small : (a n : ℕ) → StepSmall (specialOf h r a n)
-  unfolding specialOf
+  special-small : (a n : ℕ) → StepSmall (special_of h r a n)
+  unfolding special_of
   special-small a n = go (range_of h)
     where
-      go : (range : ℤ) → StepSmall (unlessZero range (NewRow (moved h r a (range_of h) n)))
+      go : (range : ℤ) → StepSmall (unless_zero range (NewRow (moved h r a (range_of h) n)))
       go (pos zero) = tt
       go (pos (suc k)) = moved-small a (range_of h) n
       go (negsuc k) = moved-small a (range_of h) n
@@ -122,9 +122,9 @@ module _ (h : LineTableHeader) (ops : List ℕ) (r : LineTableRow) (l : Small r)
   unfolding opcode
   opcode-small b n =
       picked StepSmall (eqb b 0) _ _ tt
-      (picked StepSmall (eqb b 1) _ _ (file-small (unsignedAt ops n))
-      (picked StepSmall (eqb b 2) _ _ (pc-small (unsignedAt ops n))
-      (picked StepSmall (eqb b 3) _ _ (line_small (signedAt ops n)) (special-small (b - 4) n))))
+      (picked StepSmall (eqb b 1) _ _ (file-small (unsigned_at ops n))
+      (picked StepSmall (eqb b 2) _ _ (pc-small (unsigned_at ops n))
+      (picked StepSmall (eqb b 3) _ _ (line_small (signed_at ops n)) (special-small (b - 4) n))))
 
 step_small : (h : LineTableHeader) (ops : List ℕ) (t : LineState) → Small t.row → StepSmall (step_of h ops t)
 unfolding step_of
@@ -133,7 +133,7 @@ step_small h ops t l =
 
 -- ---- a whole program
 
-end-small : (before : RowFound) (r : LineTableRow) → Small r → FoundSmall (atEnd before r)
+end-small : (before : RowFound) (r : LineTableRow) → Small r → FoundSmall (at_end before r)
 end-small (Row q) r l = l
 end-small Nothing r l = tt
 
@@ -160,14 +160,14 @@ read_small Nothing l = tt
 
 behind-small : (s : List ℕ) (symbol addr : Address) (x : HeaderRead) → HeaderSmall x
     → ReadSmall (behind s symbol addr x)
-unfolding rowFor rowFrom
+unfolding row_for row_from
 behind-small s symbol addr (header.Is h n) l =
-    let t : LineState = record { row = startRow h symbol; at = n } in
+    let t : LineState = record { row = start_row h symbol; at = n } in
     read_small (within (suc (length s - n)) h s addr Nothing t)
     (within-small (suc (length s - n)) h s addr Nothing t tt l)
 behind-small s symbol addr header.Short l = tt
 behind-small s symbol addr header.Wide l = tt
 
-pub line-row-small : (s : List ℕ) (symbol addr : Address) → ReadSmall (lineRow s symbol addr)
-unfolding lineRow
-line-row-small s symbol addr = behind-small s symbol addr (headerOf s 0) (header-small s 0)
+pub line-row-small : (s : List ℕ) (symbol addr : Address) → ReadSmall (line_row s symbol addr)
+unfolding line_row
+line-row-small s symbol addr = behind-small s symbol addr (header_of s 0) (header-small s 0)

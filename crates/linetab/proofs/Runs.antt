@@ -10,7 +10,7 @@ use Rattle.linetab.specs.declared.RunResult.TheVariants.{Ok, NewRow, End, Stoppe
 use Rattle.linetab.specs.declared.RowFound.{RowFound}
 use Rattle.linetab.specs.declared.RowFound.TheVariants.{Row, Nothing}
 use Rattle.linetab.specs.Machine.{step_of}
-use Rattle.linetab.specs.Rows.{atEnd, after, within, rowFrom, rowFor}
+use Rattle.linetab.specs.Rows.{at_end, after, within, row_from, row_for}
 use Rattle.linetab.proofs.Progress.{Ahead, step-ahead}
 
 -- an opcode behind which nothing runs
@@ -49,8 +49,8 @@ module _ (h : LineTableHeader) (ops : List ℕ) (addr : Address) where
   -- the run from a state on is one opcode, and the run from there on
   pub row-from-eq :
       (b : RowFound) (t : LineState) →
-      rowFrom h ops addr b t ≡ after (λ c v. rowFrom h ops addr c v) addr b t.row (step_of h ops t)
-  unfolding rowFrom within
+      row_from h ops addr b t ≡ after (λ c v. row_from h ops addr c v) addr b t.row (step_of h ops t)
+  unfolding row_from within
   row-from-eq b t =
       agree
       (λ c v. within (length ops - t.at) h ops addr c v)
@@ -61,35 +61,35 @@ module _ (h : LineTableHeader) (ops : List ℕ) (addr : Address) where
 
   pub row-for-eq :
       (t : LineState) →
-      rowFor h ops t addr ≡ after (λ c v. rowFrom h ops addr c v) addr Nothing t.row (step_of h ops t)
-  unfolding rowFor
+      row_for h ops t addr ≡ after (λ c v. row_from h ops addr c v) addr Nothing t.row (step_of h ops t)
+  unfolding row_for
   row-for-eq t = row-from-eq Nothing t
 
   -- ---- by what the opcode does
 
   module _ (b : RowFound) (t : LineState) where
     by : (x : RunResult) → step_of h ops t ≡ x →
-        rowFrom h ops addr b t ≡ after (λ c v. rowFrom h ops addr c v) addr b t.row x
-    by x e = row-from-eq b t ∙ ap (after (λ c v. rowFrom h ops addr c v) addr b t.row) e
+        row_from h ops addr b t ≡ after (λ c v. row_from h ops addr c v) addr b t.row x
+    by x e = row-from-eq b t ∙ ap (after (λ c v. row_from h ops addr c v) addr b t.row) e
 
-    pub on-ok : (q : LineState) → step_of h ops t ≡ Ok q → rowFrom h ops addr b t ≡ rowFrom h ops addr b q
+    pub on-ok : (q : LineState) → step_of h ops t ≡ Ok q → row_from h ops addr b t ≡ row_from h ops addr b q
     on-ok q e = by (Ok q) e
 
     pub on-made :
         (q : LineState) → step_of h ops t ≡ NewRow q →
-        rowFrom h ops addr b t ≡ pick (ltb addr.0 q.row.addr.0) b (rowFrom h ops addr (Row q.row) q)
+        row_from h ops addr b t ≡ pick (ltb addr.0 q.row.addr.0) b (row_from h ops addr (Row q.row) q)
     on-made q e = by (NewRow q) e
 
-    pub on_row :
+    pub on-row :
         (q : LineState) → step_of h ops t ≡ NewRow q → q.row.addr.0 ≤ addr.0 →
-        rowFrom h ops addr b t ≡ rowFrom h ops addr (Row q.row) q
-    on_row q e l = on-made q e ∙ ap (λ x. pick x b (rowFrom h ops addr (Row q.row) q)) (le-ltb _ _ l)
+        row_from h ops addr b t ≡ row_from h ops addr (Row q.row) q
+    on-row q e l = on-made q e ∙ ap (λ x. pick x b (row_from h ops addr (Row q.row) q)) (le-ltb _ _ l)
 
     pub on-past :
-        (q : LineState) → step_of h ops t ≡ NewRow q → addr.0 < q.row.addr.0 → rowFrom h ops addr b t ≡ b
-    on-past q e l = on-made q e ∙ ap (λ x. pick x b (rowFrom h ops addr (Row q.row) q)) (lt-ltb _ _ l)
+        (q : LineState) → step_of h ops t ≡ NewRow q → addr.0 < q.row.addr.0 → row_from h ops addr b t ≡ b
+    on-past q e l = on-made q e ∙ ap (λ x. pick x b (row_from h ops addr (Row q.row) q)) (lt-ltb _ _ l)
 
-    pub on-end : (x : RunResult) → step_of h ops t ≡ x → Ends x → rowFrom h ops addr b t ≡ atEnd b t.row
+    pub on-end : (x : RunResult) → step_of h ops t ≡ x → Ends x → row_from h ops addr b t ≡ at_end b t.row
     on-end (Ok q) e z = absurd z
     on-end (NewRow q) e z = absurd z
     on-end (End n) e z = by (End n) e

@@ -12,8 +12,8 @@
 use Rattle.std.specs.Prelude.{ℕ, zero, suc, ◌+◌, ◌-◌, ◌%◌, ◌^◌, List, length, ℤ, pos, negsuc, ◌+ℤ◌, ◌-ℤ◌, ◌==◌, int_div, int_rem, nat_lt, slice_index}
 use Rattle.types.specs.declared.Address.{Address}
 use Rattle.reads.specs.Pick.{pick}
-use Rattle.int64.specs.Wrap.{modZ, wrap}
-use Rattle.leb128.specs.Answers.{unsignedAt, signedAt}
+use Rattle.int64.specs.Wrap.{mod_z, wrap}
+use Rattle.leb128.specs.Answers.{unsigned_at, signed_at}
 use Rattle.leb128.specs.declared.Unsigned.{Unsigned}
 use Rattle.leb128.specs.declared.Unsigned.TheVariants as u
 use Rattle.leb128.specs.declared.Signed.{Signed}
@@ -27,31 +27,31 @@ use Rattle.linetab.specs.declared.RunResult.{RunResult}
 use Rattle.linetab.specs.declared.RunResult.TheVariants.{Ok, NewRow, End, Stopped, UsedUp}
 
 -- the header with min and max known, by what is read for its first line
-unfoldable pub headerWithFirst : ℤ → ℤ → Unsigned → HeaderRead
-headerWithFirst min max (u.Value v n) =
+unfoldable pub header_with_first : ℤ → ℤ → Unsigned → HeaderRead
+header_with_first min max (u.Value v n) =
     Is (record { min_delta = min; max_delta = max; first_line = record { 0 = v % 2 ^ 32 } }) n
-headerWithFirst min max u.Short = Short
-headerWithFirst min max u.Wide = Wide
+header_with_first min max u.Short = Short
+header_with_first min max u.Wide = Wide
 
 -- the header with min known, by what is read for max
-unfoldable pub headerWithMax : List ℕ → ℤ → Signed → HeaderRead
-headerWithMax s min (z.Value max n) = headerWithFirst min max (unsignedAt s n)
-headerWithMax s min z.Short = Short
-headerWithMax s min z.Wide = Wide
+unfoldable pub header_with_max : List ℕ → ℤ → Signed → HeaderRead
+header_with_max s min (z.Value max n) = header_with_first min max (unsigned_at s n)
+header_with_max s min z.Short = Short
+header_with_max s min z.Wide = Wide
 
 -- the header, by what is read for min
-unfoldable pub headerWithMin : List ℕ → Signed → HeaderRead
-headerWithMin s (z.Value min n) = headerWithMax s min (signedAt s n)
-headerWithMin s z.Short = Short
-headerWithMin s z.Wide = Wide
+unfoldable pub header_with_min : List ℕ → Signed → HeaderRead
+header_with_min s (z.Value min n) = header_with_max s min (signed_at s n)
+header_with_min s z.Short = Short
+header_with_min s z.Wide = Wide
 
 -- the header at a place, and the place after it
-unfoldable pub headerOf : List ℕ → ℕ → HeaderRead
-headerOf s at = headerWithMin s (signedAt s at)
+unfoldable pub header_of : List ℕ → ℕ → HeaderRead
+header_of s at = header_with_min s (signed_at s at)
 
 -- the state before the first opcode: the symbol's address, file 1, the first line
-abbrev pub startRow : LineTableHeader → Address → LineTableRow
-startRow h symbol = record { addr = symbol; file_idx = record { 0 = 1 }; file_line = h.first_line }
+abbrev pub start_row : LineTableHeader → Address → LineTableRow
+start_row h symbol = record { addr = symbol; file_idx = record { 0 = 1 }; file_line = h.first_line }
 
 -- a state: address, file, line, and the place of the next opcode
 abbrev pub state : ℕ → ℕ → ℕ → ℕ → LineState
@@ -61,23 +61,23 @@ state addr file line n = record {
 }
 
 -- opcode 1
-unfoldable pub setFile : LineTableRow → Unsigned → RunResult
-setFile r (u.Value v n) = Ok (state r.addr.0 (v % 2 ^ 32) r.file_line.0 n)
-setFile r u.Short = Stopped
-setFile r u.Wide = Stopped
+unfoldable pub set_file : LineTableRow → Unsigned → RunResult
+set_file r (u.Value v n) = Ok (state r.addr.0 (v % 2 ^ 32) r.file_line.0 n)
+set_file r u.Short = Stopped
+set_file r u.Wide = Stopped
 
 -- opcode 2
-unfoldable pub advancePc : LineTableRow → Unsigned → RunResult
-advancePc r (u.Value v n) = NewRow (state ((r.addr.0 + v) % 2 ^ 64) r.file_idx.0 r.file_line.0 n)
-advancePc r u.Short = Stopped
-advancePc r u.Wide = Stopped
+unfoldable pub advance_pc : LineTableRow → Unsigned → RunResult
+advance_pc r (u.Value v n) = NewRow (state ((r.addr.0 + v) % 2 ^ 64) r.file_idx.0 r.file_line.0 n)
+advance_pc r u.Short = Stopped
+advance_pc r u.Wide = Stopped
 
 -- opcode 3
-unfoldable pub advanceLine : LineTableRow → Signed → RunResult
-advanceLine r (z.Value d n) =
-    Ok (state r.addr.0 r.file_idx.0 (modZ (pos r.file_line.0 +ℤ d) (2 ^ 32)) n)
-advanceLine r z.Short = Stopped
-advanceLine r z.Wide = Stopped
+unfoldable pub advance_line : LineTableRow → Signed → RunResult
+advance_line r (z.Value d n) =
+    Ok (state r.addr.0 r.file_idx.0 (mod_z (pos r.file_line.0 +ℤ d) (2 ^ 32)) n)
+advance_line r z.Short = Stopped
+advance_line r z.Wide = Stopped
 
 -- how many line changes the special opcodes tell apart, as a signed 64-bit number
 unfoldable pub range_of : LineTableHeader → ℤ
@@ -86,28 +86,28 @@ range_of h = wrap (h.max_delta -ℤ h.min_delta +ℤ pos 1)
 -- what a special opcode, a above the first, makes of a row at a range other than 0
 unfoldable pub moved : LineTableHeader → LineTableRow → ℕ → ℤ → ℕ → LineState
 moved h r a range n =
-    state (modZ (pos r.addr.0 +ℤ int_div (pos a) range) (2 ^ 64))
+    state (mod_z (pos r.addr.0 +ℤ int_div (pos a) range) (2 ^ 64))
     r.file_idx.0
-    (modZ (pos r.file_line.0 +ℤ wrap (h.min_delta +ℤ int_rem (pos a) range)) (2 ^ 32))
+    (mod_z (pos r.file_line.0 +ℤ wrap (h.min_delta +ℤ int_rem (pos a) range)) (2 ^ 32))
     n
 
 -- a range of 0 stops the program
-abbrev pub unlessZero : ℤ → RunResult → RunResult
-unlessZero (pos zero) x = Stopped
-unlessZero (pos (suc n)) x = x
-unlessZero (negsuc n) x = x
+abbrev pub unless_zero : ℤ → RunResult → RunResult
+unless_zero (pos zero) x = Stopped
+unless_zero (pos (suc n)) x = x
+unless_zero (negsuc n) x = x
 
 -- a special opcode, a above the first, behind which the place is n
-unfoldable pub specialOf : LineTableHeader → LineTableRow → ℕ → ℕ → RunResult
-specialOf h r a n = unlessZero (range_of h) (NewRow (moved h r a (range_of h) n))
+unfoldable pub special_of : LineTableHeader → LineTableRow → ℕ → ℕ → RunResult
+special_of h r a n = unless_zero (range_of h) (NewRow (moved h r a (range_of h) n))
 
 -- opcode b, behind which the place is n
 unfoldable pub opcode : LineTableHeader → List ℕ → LineTableRow → ℕ → ℕ → RunResult
 opcode h ops r b n =
     pick (b == 0) (End n)
-    (pick (b == 1) (setFile r (unsignedAt ops n))
-    (pick (b == 2) (advancePc r (unsignedAt ops n))
-    (pick (b == 3) (advanceLine r (signedAt ops n)) (specialOf h r (b - 4) n))))
+    (pick (b == 1) (set_file r (unsigned_at ops n))
+    (pick (b == 2) (advance_pc r (unsigned_at ops n))
+    (pick (b == 3) (advance_line r (signed_at ops n)) (special_of h r (b - 4) n))))
 
 -- the opcode at a state's place, if there is a byte
 unfoldable pub step_of : LineTableHeader → List ℕ → LineState → RunResult

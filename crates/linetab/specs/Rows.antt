@@ -15,20 +15,20 @@ use Rattle.linetab.specs.declared.RowFound.{RowFound}
 use Rattle.linetab.specs.declared.RowFound.TheVariants.{Row, Nothing}
 use Rattle.linetab.specs.declared.LineRead.{LineRead}
 use Rattle.linetab.specs.declared.LineRead.TheVariants as read
-use Rattle.linetab.specs.Machine.{headerOf, startRow, step_of}
+use Rattle.linetab.specs.Machine.{header_of, start_row, step_of}
 
 -- the program ends, at a state with the row r: none where no row was made before, else the present state
-abbrev pub atEnd : RowFound → LineTableRow → RowFound
-atEnd (Row q) r = Row r
-atEnd Nothing r = Nothing
+abbrev pub at_end : RowFound → LineTableRow → RowFound
+at_end (Row q) r = Row r
+at_end Nothing r = Nothing
 
 -- what an opcode at a state with the row r leads to; `before` is the last row made, and `go` the run from there on
 abbrev pub after : (RowFound → LineState → RowFound) → Address → RowFound → LineTableRow → RunResult → RowFound
 after go addr before r (Ok t) = go before t
 after go addr before r (NewRow t) = pick (nat_lt addr.0 t.row.addr.0) before (go (Row t.row) t)
-after go addr before r (End n) = atEnd before r
-after go addr before r Stopped = atEnd before r
-after go addr before r UsedUp = atEnd before r
+after go addr before r (End n) = at_end before r
+after go addr before r Stopped = at_end before r
+after go addr before r UsedUp = at_end before r
 
 -- at most k opcodes
 unfoldable pub within : ℕ → LineTableHeader → List ℕ → Address → RowFound → LineState → RowFound
@@ -37,12 +37,12 @@ within (suc k) h ops addr before t = after (λ b q. within k h ops addr b q) add
 
 -- the row of an address from a state on, where `before` is the last row made; each opcode takes a byte, so that as many
 -- opcodes as bytes are left are enough
-unfoldable pub rowFrom : LineTableHeader → List ℕ → Address → RowFound → LineState → RowFound
-rowFrom h ops addr before t = within (suc (length ops - t.at)) h ops addr before t
+unfoldable pub row_from : LineTableHeader → List ℕ → Address → RowFound → LineState → RowFound
+row_from h ops addr before t = within (suc (length ops - t.at)) h ops addr before t
 
 -- the row of an address from a state on, before any row is made
-unfoldable pub rowFor : LineTableHeader → List ℕ → LineState → Address → RowFound
-rowFor h ops t addr = rowFrom h ops addr Nothing t
+unfoldable pub row_for : LineTableHeader → List ℕ → LineState → Address → RowFound
+row_for h ops t addr = row_from h ops addr Nothing t
 
 -- the same as an answer for a whole table
 abbrev pub found : RowFound → LineRead
@@ -50,10 +50,10 @@ found (Row r) = read.Row r
 found Nothing = read.Nothing
 
 abbrev pub behind : List ℕ → Address → Address → HeaderRead → LineRead
-behind s symbol addr (header.Is h n) = found (rowFor h s (record { row = startRow h symbol; at = n }) addr)
+behind s symbol addr (header.Is h n) = found (row_for h s (record { row = start_row h symbol; at = n }) addr)
 behind s symbol addr header.Short = read.Short
 behind s symbol addr header.Wide = read.Wide
 
 -- the row of an address in a whole table: the header at 0, and the program behind it
-unfoldable pub lineRow : List ℕ → Address → Address → LineRead
-lineRow s symbol addr = behind s symbol addr (headerOf s 0)
+unfoldable pub line_row : List ℕ → Address → Address → LineRead
+line_row s symbol addr = behind s symbol addr (header_of s 0)

@@ -10,8 +10,8 @@ mod opcode;
 mod quick;
 
 ghost use Rattle.std.specs.Prelude.{◌≡◌};
-ghost use Rattle.linetab.specs.Machine.{headerOf, startRow, step_of};
-ghost use Rattle.linetab.specs.Rows.{atEnd, rowFrom, rowFor, lineRow};
+ghost use Rattle.linetab.specs.Machine.{header_of, start_row, step_of};
+ghost use Rattle.linetab.specs.Rows.{at_end, row_from, row_for, line_row};
 
 use header::parse_max;
 use leb128::Signed;
@@ -99,7 +99,7 @@ pub enum LineRead {
 
 // The header at `at`.
 pub fn parse(block: &[u8], at: usize) -> HeaderRead
-    ensures { result ≡ headerOf block.now at }
+    ensures { result ≡ header_of block.now at }
 {
     match leb128::signed_at(block, at) {
         Signed::Value { value, next } => parse_max(block, value, next),
@@ -110,7 +110,7 @@ pub fn parse(block: &[u8], at: usize) -> HeaderRead
 
 // The state's row before the first opcode: the symbol's address, file 1, the header's first line.
 pub fn from_header(header: LineTableHeader, symbol: Address) -> LineTableRow
-    ensures { result ≡ startRow header symbol }
+    ensures { result ≡ start_row header symbol }
 {
     let file_line = header.first_line;
     LineTableRow {
@@ -143,7 +143,7 @@ pub fn run_op(header: LineTableHeader, ops: &[u8], state: LineState) -> RunResul
 // The answer where the program ends: none if no row was made, else the present state, with any change of file or line
 // made after the last row.
 fn ending(before: RowFound, row: LineTableRow) -> RowFound
-    ensures { result ≡ atEnd before row }
+    ensures { result ≡ at_end before row }
 {
     match before {
         RowFound::Row(_) => RowFound::Row(row),
@@ -154,7 +154,7 @@ fn ending(before: RowFound, row: LineTableRow) -> RowFound
 // The row of `addr` in the program from `start` on: the one before the first row above `addr`, none if that is the
 // first made. A range that fits a byte goes the quick way, row by row; all others go opcode by opcode.
 pub fn row_for(header: LineTableHeader, ops: &[u8], start: LineState, addr: Address) -> RowFound
-    ensures { result ≡ rowFor header ops.now start addr }
+    ensures { result ≡ row_for header ops.now start addr }
 {
     let whole = range_of(header);
     let range = int64::to_bits(whole);
@@ -175,7 +175,7 @@ fn row_by_op(
     start: LineState,
     addr: Address,
 ) -> RowFound
-    ensures { result ≡ rowFrom header ops.now addr last start }
+    ensures { result ≡ row_from header ops.now addr last start }
 {
     let mut before = last;
     let mut state = start;
@@ -211,7 +211,7 @@ fn row_by_op(
 
 // The row of `addr` in a whole table: the header at 0, and the program behind it.
 pub fn line_row(block: &[u8], symbol: Address, addr: Address) -> LineRead
-    ensures { result ≡ lineRow block.now symbol addr }
+    ensures { result ≡ line_row block.now symbol addr }
 {
     match parse(block, 0) {
         HeaderRead::Is { header, next } => {

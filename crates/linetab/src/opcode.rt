@@ -1,7 +1,7 @@
 // What each opcode does to a row (document 01, "Line table"). An operand that doesn't read stops the program.
 ghost use Rattle.std.specs.Prelude.{◌≡◌};
-ghost use Rattle.leb128.specs.Answers.{unsignedAt, signedAt};
-ghost use Rattle.linetab.specs.Machine.{setFile, advancePc, advanceLine, range_of, specialOf};
+ghost use Rattle.leb128.specs.Answers.{unsigned_at, signed_at};
+ghost use Rattle.linetab.specs.Machine.{set_file, advance_pc, advance_line, range_of, special_of};
 
 use super::{LineState, LineTableHeader, LineTableRow, RunResult};
 use leb128::{Signed, Unsigned};
@@ -9,7 +9,7 @@ use types::{Address, FileIndex, LineNumber};
 
 // Opcode 1, whose operand is at `at`: the file becomes that number modulo 2^32.
 pub(crate) fn set_file(ops: &[u8], row: LineTableRow, at: usize) -> RunResult
-    ensures { result ≡ setFile row (unsignedAt ops.now at) }
+    ensures { result ≡ set_file row (unsigned_at ops.now at) }
 {
     let addr = row.addr;
     let file_line = row.file_line;
@@ -34,7 +34,7 @@ pub(crate) fn set_file(ops: &[u8], row: LineTableRow, at: usize) -> RunResult
 
 // Opcode 2: addresses wrap modulo 2^64.
 pub(crate) fn advance_pc(ops: &[u8], row: LineTableRow, at: usize) -> RunResult
-    ensures { result ≡ advancePc row (unsignedAt ops.now at) }
+    ensures { result ≡ advance_pc row (unsigned_at ops.now at) }
 {
     let from = row.addr;
     let file_idx = row.file_idx;
@@ -60,7 +60,7 @@ pub(crate) fn advance_pc(ops: &[u8], row: LineTableRow, at: usize) -> RunResult
 
 // Opcode 3: lines wrap modulo 2^32.
 pub(crate) fn advance_line(ops: &[u8], row: LineTableRow, at: usize) -> RunResult
-    ensures { result ≡ advanceLine row (signedAt ops.now at) }
+    ensures { result ≡ advance_line row (signed_at ops.now at) }
 {
     let addr = row.addr;
     let file_idx = row.file_idx;
@@ -94,7 +94,7 @@ pub(crate) fn range_of(header: LineTableHeader) -> i64
 
 // A special opcode, `a` above the first one. A range of 0 stops the program; a negative one moves the address back.
 pub(crate) fn special(header: LineTableHeader, row: LineTableRow, a: u8, next: usize) -> RunResult
-    ensures { result ≡ specialOf header row a next }
+    ensures { result ≡ special_of header row a next }
 {
     let range = range_of(header);
     if range == 0 {

@@ -6,8 +6,8 @@
 ghost use Rattle.std.specs.Prelude.{◌≡◌, ℕ, ◌<◌, ◌≤◌, length, slice_index};
 ghost use Rattle.linetab.specs.declared.LineTableHeader.{LineTableHeader as Header};
 ghost use Rattle.linetab.specs.Machine.{state};
-ghost use Rattle.linetab.specs.Quick.{Suits, FileTo, LineTo, Leads, rowBefore};
-ghost use Rattle.linetab.specs.Rows.{rowFor};
+ghost use Rattle.linetab.specs.Quick.{Suits, FileTo, LineTo, Leads, row_before};
+ghost use Rattle.linetab.specs.Rows.{row_for};
 
 use super::{
     ADVANCE_LINE, ADVANCE_PC, FIRST_SPECIAL, LineState, LineTableHeader, LineTableRow, RowFound,
@@ -210,7 +210,7 @@ fn row_of(addr: u64, file: u32, line: u32) -> LineTableRow
 
 // The last row made, where that is the state: none at the place where the program starts.
 fn row_before(start: usize, at: usize, addr: u64, file: u32, line: u32) -> RowFound
-    ensures { result ≡ rowBefore start (state addr file line at) }
+    ensures { result ≡ row_before start (state addr file line at) }
 {
     if start < at {
         return RowFound::Row(row_of(addr, file, line));
@@ -227,7 +227,7 @@ pub(crate) fn quick_rows(
     plan: Plan,
 ) -> RowFound
     requires { Suits header plan }
-    ensures { result ≡ rowFor header ops.now start addr }
+    ensures { result ≡ row_for header ops.now start addr }
 {
     let first = start.row;
     let a0 = first.addr;

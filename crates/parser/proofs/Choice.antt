@@ -6,7 +6,7 @@ use borrow.Author.Tests.{lt-leb}
 use Rattle.reads.proofs.Orders.{lt-or-ge}
 use Rattle.parser.specs.declared.Found.{Found}
 use Rattle.parser.specs.declared.Found.TheVariants.{At, Unknown}
-use Rattle.parser.specs.Search.{halving, chosenFrom, findIn, Chosen, Right, NeverFalls, Rises, LastNotAbove}
+use Rattle.parser.specs.Search.{halving, chosen_from, find_in, Chosen, Right, NeverFalls, Rises, LastNotAbove}
 use Rattle.parser.proofs.Halving.{find-empty, find-above, find_at}
 
 module _ (table : List ℕ) (wanted : ℕ) where
@@ -61,13 +61,13 @@ module _ (table : List ℕ) (wanted : ℕ) where
       (lt-or-ge 1 len)
 
   all-chosen :
-      0 < length table → get_or table 0 0 ≤ wanted → Chosen table wanted (chosenFrom table wanted 0 (length table))
-  unfolding chosenFrom
+      0 < length table → get_or table 0 0 ≤ wanted → Chosen table wanted (chosen_from table wanted 0 (length table))
+  unfolding chosen_from
   all-chosen p l =
       halving-chosen (length table) 0 (length table) (omega arith) (omega arith) (omega arith) l (inl (omega arith))
 
   -- on every table
-  pub chosen : Right table wanted (findIn table wanted)
+  pub chosen : Right table wanted (find_in table wanted)
   chosen =
       ⊎_elim
       (λ (p : 0 < length table).
@@ -75,17 +75,17 @@ module _ (table : List ℕ) (wanted : ℕ) where
       ⊎_elim
       (λ (l : wanted < get_or table 0 0). subst (Right table wanted) (find-above table wanted n l) (inr l))
       (λ (l : get_or table 0 0 ≤ wanted).
-      subst (Right table wanted) (find_at table wanted (chosenFrom table wanted 0 (length table)) n l refl)
+      subst (Right table wanted) (find_at table wanted (chosen_from table wanted 0 (length table)) n l refl)
       (l, all-chosen p l))
       (lt-or-ge wanted (get_or table 0 0)))
       (λ (p : length table ≤ 0).
       let e : length table ≡ 0 = omega arith in subst (Right table wanted) (find-empty table wanted e) (inl e))
       (lt-or-ge 0 (length table))
 
-  pub found-chosen : (i : ℕ) → findIn table wanted ≡ At i → (get_or table 0 0 ≤ wanted) × Chosen table wanted i
+  pub found-chosen : (i : ℕ) → find_in table wanted ≡ At i → (get_or table 0 0 ≤ wanted) × Chosen table wanted i
   found-chosen i e = subst (Right table wanted) e chosen
 
-  pub unknown-why : findIn table wanted ≡ Unknown → (length table ≡ 0) ⊎ (wanted < get_or table 0 0)
+  pub unknown-why : find_in table wanted ≡ Unknown → (length table ≡ 0) ⊎ (wanted < get_or table 0 0)
   unknown-why e = subst (Right table wanted) e chosen
 
   -- on a table that never falls
@@ -125,8 +125,8 @@ module _ (table : List ℕ) (wanted : ℕ) where
           absurd (omega (arith, never-falls-between 0 i (omega arith) h.inside, h.not-above))
 
       -- an index that fits is the one that is answered, so no other fits
-      pub chosen-unique : findIn table wanted ≡ At i
-      chosen-unique = same (findIn table wanted) chosen
+      pub chosen-unique : find_in table wanted ≡ At i
+      chosen-unique = same (find_in table wanted) chosen
 
 pub rises-never-falls : (table : List ℕ) → Rises table → NeverFalls table
 rises-never-falls table up i h = omega (arith, up i h)

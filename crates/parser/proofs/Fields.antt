@@ -3,8 +3,8 @@
 use Rattle.std.proofs.Common.{◌≡◌, ℕ, ◌+◌, ◌-◌, ◌<◌, ◌≤◌, List, [], length, take, drop, sym, ap, ◌∙◌, ⊎_elim, arith, length-drop, drop_of_length-le, length-take-le, take_all, le-leb}
 use native.Mathlib.Nat.{add-sub_cancel_left}
 use borrow.Author.Tests.{lt-leb}
-use Rattle.reads.specs.Bytes.{value, le, leAt}
-use Rattle.reads.specs.Answers.{as8, as16, as32, as64, u8_at, u16At, u32_at, u64At}
+use Rattle.reads.specs.Bytes.{value, le, le_at}
+use Rattle.reads.specs.Answers.{as8, as16, as32, as64, u8_at, u16_at, u32_at, u64_at}
 use Rattle.reads.specs.declared.Read8.TheVariants as r8
 use Rattle.reads.specs.declared.Read16.TheVariants as r16
 use Rattle.reads.specs.declared.Read32.TheVariants as r32
@@ -20,19 +20,19 @@ never z = absurd (omega arith)
 
 module _ (s : List ℕ) (at : ℕ) where
   -- where the bytes are there, the number reads
-  pub num-reads : (width : ℕ) → width ≤ length s - at → leAt width s at ≡ value (num_at width s at)
+  pub num-reads : (width : ℕ) → width ≤ length s - at → le_at width s at ≡ value (num_at width s at)
   unfolding num_at
   num-reads width h = there s at width h
 
   -- the number's own bytes read as the number
   own :
       (width : ℕ) → at + width ≤ length s →
-      leAt width (take (at + width - at) (drop at s)) 0 ≡ value (num_at width s at)
+      le_at width (take (at + width - at) (drop at s)) 0 ≡ value (num_at width s at)
   unfolding num_at
   own width h =
       let n : length (take width (drop at s)) ≡ width =
       length-take-le width (drop at s) (omega (arith, length-drop at s)) in
-      ap (λ w. leAt width (take w (drop at s)) 0) (add-sub_cancel_left at width)
+      ap (λ w. le_at width (take w (drop at s)) 0) (add-sub_cancel_left at width)
       ∙ there (take width (drop at s)) 0 width (omega arith)
       ∙ ap (λ l. value (le l)) (take_all width (take width (drop at s)) (omega arith))
 
@@ -47,12 +47,12 @@ module _ (s : List ℕ) (at : ℕ) where
     not8 e = let f = ap as8 (own 1 h) in let z : ◌≡◌ {A = ℕ} 0 1 = cc in never z
 
   module _ (h : at + 2 ≤ length s) where
-    pub is16 : (v : ℕ) → r16.Value v ≡ u16At (take (at + 2 - at) (drop at s)) 0 → v ≡ num_at 2 s at
-    unfolding u16At
+    pub is16 : (v : ℕ) → r16.Value v ≡ u16_at (take (at + 2 - at) (drop at s)) 0 → v ≡ num_at 2 s at
+    unfolding u16_at
     is16 v e = let f = ap as16 (own 2 h) in cc
 
-    pub not16 : r16.Unread ≡ u16At (take (at + 2 - at) (drop at s)) 0 → 0 ≡ num_at 2 s at
-    unfolding u16At
+    pub not16 : r16.Unread ≡ u16_at (take (at + 2 - at) (drop at s)) 0 → 0 ≡ num_at 2 s at
+    unfolding u16_at
     not16 e = let f = ap as16 (own 2 h) in let z : ◌≡◌ {A = ℕ} 0 1 = cc in never z
 
   module _ (h : at + 4 ≤ length s) where
@@ -65,12 +65,12 @@ module _ (s : List ℕ) (at : ℕ) where
     not32 e = let f = ap as32 (own 4 h) in let z : ◌≡◌ {A = ℕ} 0 1 = cc in never z
 
   module _ (h : at + 8 ≤ length s) where
-    pub is64 : (v : ℕ) → r64.Value v ≡ u64At (take (at + 8 - at) (drop at s)) 0 → v ≡ num_at 8 s at
-    unfolding u64At
+    pub is64 : (v : ℕ) → r64.Value v ≡ u64_at (take (at + 8 - at) (drop at s)) 0 → v ≡ num_at 8 s at
+    unfolding u64_at
     is64 v e = let f = ap as64 (own 8 h) in cc
 
-    pub not64 : r64.Unread ≡ u64At (take (at + 8 - at) (drop at s)) 0 → 0 ≡ num_at 8 s at
-    unfolding u64At
+    pub not64 : r64.Unread ≡ u64_at (take (at + 8 - at) (drop at s)) 0 → 0 ≡ num_at 8 s at
+    unfolding u64_at
     not64 e = let f = ap as64 (own 8 h) in let z : ◌≡◌ {A = ℕ} 0 1 = cc in never z
 
   -- two numbers side by side

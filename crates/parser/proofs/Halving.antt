@@ -5,7 +5,7 @@ use borrow.Author.Tests.{lt-leb}
 use Rattle.reads.specs.Pick.{pick}
 use Rattle.reads.proofs.Orders.{lt-or-ge}
 use Rattle.parser.specs.declared.Found.TheVariants.{At, Unknown}
-use Rattle.parser.specs.Search.{halving, chosenFrom, findIn}
+use Rattle.parser.specs.Search.{halving, chosen_from, find_in}
 
 -- the index after a turn
 abbrev pub moved : List ℕ → ℕ → ℕ → ℕ → ℕ
@@ -25,14 +25,14 @@ module _ (table : List ℕ) (wanted : ℕ) where
       (λ (l : len ≤ 1). rw (le-leb _ _ l))
       (lt-or-ge 1 len)
 
-  pub chosen-from-end : (lo len : ℕ) → len ≤ 1 → chosenFrom table wanted lo len ≡ lo
-  unfolding chosenFrom halving
+  pub chosen-from-end : (lo len : ℕ) → len ≤ 1 → chosen_from table wanted lo len ≡ lo
+  unfolding chosen_from halving
   chosen-from-end lo zero h = refl
   chosen-from-end lo (suc len) h = rw (le-leb _ _ h)
 
   pub chosen-from-turn : (lo len : ℕ) → 1 < len
-      → chosenFrom table wanted lo len ≡ chosenFrom table wanted (moved table wanted lo (len / 2)) (len - len / 2)
-  unfolding chosenFrom halving
+      → chosen_from table wanted lo len ≡ chosen_from table wanted (moved table wanted lo (len / 2)) (len - len / 2)
+  unfolding chosen_from halving
   chosen-from-turn lo zero h = absurd (omega arith)
   chosen-from-turn lo (suc len) h =
       rw (lt-leb _ _ h)
@@ -40,15 +40,15 @@ module _ (table : List ℕ) (wanted : ℕ) where
       (omega arith))
 
   -- the ways out
-  pub find-empty : length table ≡ 0 → Unknown ≡ findIn table wanted
-  unfolding findIn
+  pub find-empty : length table ≡ 0 → Unknown ≡ find_in table wanted
+  unfolding find_in
   find-empty h = rw (eq-eqb _ _ h)
 
-  pub find-above : (length table ≡ 0 → ⊥) → wanted < get_or table 0 0 → Unknown ≡ findIn table wanted
-  unfolding findIn
+  pub find-above : (length table ≡ 0 → ⊥) → wanted < get_or table 0 0 → Unknown ≡ find_in table wanted
+  unfolding find_in
   find-above n h = rw (ne_eqb _ _ n, lt-ltb _ _ h)
 
   pub find_at : (i : ℕ) → (length table ≡ 0 → ⊥) → get_or table 0 0 ≤ wanted
-      → chosenFrom table wanted 0 (length table) ≡ i → At i ≡ findIn table wanted
-  unfolding findIn
+      → chosen_from table wanted 0 (length table) ≡ i → At i ≡ find_in table wanted
+  unfolding find_in
   find_at i n h e = rw (ne_eqb _ _ n, le-ltb _ _ h, e)

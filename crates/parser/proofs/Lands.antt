@@ -10,7 +10,7 @@ use Rattle.types.specs.declared.Address.{Address}
 use Rattle.parser.specs.declared.Tables.{Tables}
 use Rattle.parser.specs.declared.Found.{Found}
 use Rattle.parser.specs.declared.Found.TheVariants.{At, Unknown}
-use Rattle.parser.specs.Search.{findIn, table_of, findOf, landFrom, landOf, addressesOf}
+use Rattle.parser.specs.Search.{find_in, table_of, find_of, land_from, land_of, addresses_of}
 use Rattle.parser.specs.Search.{Right, NeverFalls, LastNotAbove}
 use Rattle.parser.proofs.Choice.{chosen, chosen_last, never-falls-between}
 
@@ -19,16 +19,16 @@ abbrev pub AllAbove : List ℕ → ℕ → Type 0
 AllAbove table wanted = (j : ℕ) → j < length table → wanted < get_or table j 0
 
 module _ (wanted : ℕ) where
-  from-none : (k : ℕ) (table : List ℕ) (best : Found) → AllAbove table wanted → landFrom k table wanted best ≡ best
-  unfolding landFrom
+  from-none : (k : ℕ) (table : List ℕ) (best : Found) → AllAbove table wanted → land_from k table wanted best ≡ best
+  unfolding land_from
   from-none k [] best a = refl
   from-none k (e ∷ es) best a =
       rw (lt-leb _ _ (a 0 (omega arith))) (from-none (k + 1) es best (λ j l. a (suc j) (omega arith)))
 
   from_last :
       (k : ℕ) (table : List ℕ) (best : Found) (i : ℕ) → i < length table → get_or table i 0 ≤ wanted →
-      ((j : ℕ) → i < j → j < length table → wanted < get_or table j 0) → landFrom k table wanted best ≡ At (k + i)
-  unfolding landFrom
+      ((j : ℕ) → i < j → j < length table → wanted < get_or table j 0) → land_from k table wanted best ≡ At (k + i)
+  unfolding land_from
   from_last k [] best i h n a = absurd (omega arith)
   from_last k (e ∷ es) best zero h n a =
       let q : k ≡ k + 0 = omega arith in
@@ -38,21 +38,21 @@ module _ (wanted : ℕ) where
       let q : k + 1 + i ≡ k + suc i = omega arith in
       from_last (k + 1) es _ i (omega arith) n (λ j l m. a (suc j) (omega arith) (omega arith)) ∙ ap At q
 
-  pub land-none : (table : List ℕ) → AllAbove table wanted → landOf table wanted ≡ Unknown
-  unfolding landOf
+  pub land-none : (table : List ℕ) → AllAbove table wanted → land_of table wanted ≡ Unknown
+  unfolding land_of
   land-none table a = from-none 0 table Unknown a
 
-  pub land_last : (table : List ℕ) (i : ℕ) → LastNotAbove table wanted i → landOf table wanted ≡ At i
-  unfolding landOf
+  pub land_last : (table : List ℕ) (i : ℕ) → LastNotAbove table wanted i → land_of table wanted ≡ At i
+  unfolding land_of
   land_last table i h =
       let q : 0 + i ≡ i = omega arith in
       from_last 0 table Unknown i h.inside h.not-above h.above-after ∙ ap At q
 
   -- the search is that
-  pub find-lands : (table : List ℕ) → NeverFalls table → findIn table wanted ≡ landOf table wanted
-  find-lands table up = go (findIn table wanted) (chosen table wanted)
+  pub find-lands : (table : List ℕ) → NeverFalls table → find_in table wanted ≡ land_of table wanted
+  find-lands table up = go (find_in table wanted) (chosen table wanted)
     where
-      go : (f : Found) → Right table wanted f → f ≡ landOf table wanted
+      go : (f : Found) → Right table wanted f → f ≡ land_of table wanted
       go (At i) r = sym (land_last table i (chosen_last table wanted up i r.1))
       go Unknown (inl e) = sym (land-none table (λ j l. absurd (omega arith)))
       go Unknown (inr g) =
@@ -75,7 +75,7 @@ module _ (base : ℕ) (table : List ℕ) where
         let m : e ≤ addr - base = omega arith in le-leb _ _ l ∙ sym (le-leb _ _ m))
         (lt-or-ge addr (base + e))
 
-    moved_none : addr < base → landOf (map (λ e. base + e) table) addr ≡ Unknown
+    moved_none : addr < base → land_of (map (λ e. base + e) table) addr ≡ Unknown
     moved_none h =
         land-none addr (map (λ e. base + e) table)
         (λ j l. let m : j < length table = rw length-map at l in omega (arith, moved-entry j table m))
@@ -83,21 +83,21 @@ module _ (base : ℕ) (table : List ℕ) where
     -- at any step along the table the two agree
     moved-from :
         (k : ℕ) (es : List ℕ) (best : Found) → base ≤ addr →
-        landFrom k (map (λ e. base + e) es) addr best ≡ landFrom k es (addr - base) best
-    unfolding landFrom
+        land_from k (map (λ e. base + e) es) addr best ≡ land_from k es (addr - base) best
+    unfolding land_from
     moved-from k [] best h = refl
     moved-from k (e ∷ es) best h =
         let q : leb (base + e) addr ≡ leb e (addr - base) = same_test e h in
-        ap (λ b. landFrom (k + 1) (map (λ e. base + e) es) addr (pick b (At k) best)) q
+        ap (λ b. land_from (k + 1) (map (λ e. base + e) es) addr (pick b (At k) best)) q
         ∙ moved-from (k + 1) es (pick (leb e (addr - base)) (At k) best) h
 
-    pub land-moved : base ≤ addr → landOf (map (λ e. base + e) table) addr ≡ landOf table (addr - base)
-    unfolding landOf
+    pub land-moved : base ≤ addr → land_of (map (λ e. base + e) table) addr ≡ land_of table (addr - base)
+    unfolding land_of
     land-moved h = moved-from 0 table Unknown h
 
 module _ (file : List ℕ) (t : Tables) (addr : Address) where
-  pub find-address : NeverFalls (table_of file t) → findOf file t addr ≡ landOf (addressesOf file t) addr.0
-  unfolding findOf addressesOf
+  pub find-address : NeverFalls (table_of file t) → find_of file t addr ≡ land_of (addresses_of file t) addr.0
+  unfolding find_of addresses_of
   find-address up =
       ⊎_elim
       (λ (l : addr.0 < t.base.0). rw (lt-ltb _ _ l) (sym (moved_none t.base.0 (table_of file t) addr.0 l)))

@@ -3,7 +3,7 @@
 use Rattle.std.proofs.Common.{◌≡◌, ℕ, ◌+◌, ◌-◌, ◌*◌, ◌<◌, ◌≤◌, Bool, true, false, eqb, leb, List, length, drop, sym, refl, ap, ◌∙◌, ⊎_elim, arith, length-drop, lt-ltb, le-leb}
 use borrow.Author.Tests.{lt-leb}
 use Rattle.reads.specs.Pick.{pick}
-use Rattle.reads.specs.Answers.{as32, u16At, u32_at}
+use Rattle.reads.specs.Answers.{as32, u16_at, u32_at}
 use Rattle.reads.specs.declared.Read16.{Read16}
 use Rattle.reads.specs.declared.Read16.TheVariants as r16
 use Rattle.reads.specs.declared.Read32.{Read32}
@@ -15,11 +15,11 @@ use Rattle.parser.specs.declared.Tables.{Tables}
 use Rattle.parser.specs.declared.Opened.{Opened}
 use Rattle.parser.specs.declared.Opened.TheVariants.{Is, Refused}
 use Rattle.parser.specs.declared.opening.Header.{Header}
-use Rattle.parser.specs.Header.{numbersOf, fileCountPlace, filesPlace, tablesWith, withFiles, tables_of}
-use Rattle.parser.specs.Header.{afterVersion, onVersion, onMagic, opened_of, Within}
+use Rattle.parser.specs.Header.{numbers_of, file_count_place, files_place, tables_with, with_files, tables_of}
+use Rattle.parser.specs.Header.{after_version, on_version, on_magic, opened_of, Within}
 use Rattle.parser.specs.declared.FileRead.TheVariants as row
-use Rattle.parser.specs.Search.{isWidth, table_of}
-use Rattle.parser.specs.Entries.{offsetAt, fileAt}
+use Rattle.parser.specs.Search.{is_width, table_of}
+use Rattle.parser.specs.Entries.{offset_at, file_at}
 use Rattle.parser.proofs.Fields.{never, num-reads}
 use Rattle.parser.proofs.Table.{length-table, len-fits}
 
@@ -39,13 +39,13 @@ module _ (file : List ℕ) (t : Tables) where
       (λ (l : a ≤ b). (l, simp (le-leb _ _ l) at e))
       (lt-or-ge b a)
 
-  files-within : (h : Header) (n : ℕ) → withFiles file h n ≡ Is t → Within file t
-  unfolding withFiles
+  files-within : (h : Header) (n : ℕ) → with_files file h n ≡ Is t → Within file t
+  unfolding with_files
   files-within h n e =
-      let p = first_of (filesPlace h + n * 8) (length file) _ 2 e in
-      let q = first_of (h.strings_offset + h.strings_size) (length file) (Is (tablesWith h n)) 2 p.1 in
-      let s : tablesWith h n ≡ t = cc q.1 in
-      let w : Within file (tablesWith h n) = record {
+      let p = first_of (files_place h + n * 8) (length file) _ 2 e in
+      let q = first_of (h.strings_offset + h.strings_size) (length file) (Is (tables_with h n)) 2 p.1 in
+      let s : tables_with h n ≡ t = cc q.1 in
+      let w : Within file (tables_with h n) = record {
         addrs = refl;
         offsets = refl;
         files = refl;
@@ -56,23 +56,23 @@ module _ (file : List ℕ) (t : Tables) where
       } in
       rw (← s) w
 
-  after-within : afterVersion file ≡ Is t → Within file t
-  unfolding afterVersion tables_of
+  after-within : after_version file ≡ Is t → Within file t
+  unfolding after_version tables_of
   after-within e =
-      let h = numbersOf file in
+      let h = numbers_of file in
       let p = first_of 48 (length file) _ 2 e in
-      let q = first_of (filesPlace h) (length file) (withFiles file h (num_at 4 file (fileCountPlace h))) 2 p.1 in
-      files-within h (num_at 4 file (fileCountPlace h)) q.1
+      let q = first_of (files_place h) (length file) (with_files file h (num_at 4 file (file_count_place h))) 2 p.1 in
+      files-within h (num_at 4 file (file_count_place h)) q.1
 
-  version-within : (r : Read16) → onVersion file r ≡ Is t → Within file t
-  unfolding onVersion
-  version-within (r16.Value v) e = after-within (only (eqb v 1) (afterVersion file) 4 e)
+  version-within : (r : Read16) → on_version file r ≡ Is t → Within file t
+  unfolding on_version
+  version-within (r16.Value v) e = after-within (only (eqb v 1) (after_version file) 4 e)
   version-within r16.Unread e = refused-is 2 t e
 
-  magic-within : (r : Read32) → onMagic file r ≡ Is t → Within file t
-  unfolding onMagic
+  magic-within : (r : Read32) → on_magic file r ≡ Is t → Within file t
+  unfolding on_magic
   magic-within (r32.Value m) e =
-      version-within (u16At file 4) (only (eqb m 0x4753594d) (onVersion file (u16At file 4)) 3 e)
+      version-within (u16_at file 4) (only (eqb m 0x4753594d) (on_version file (u16_at file 4)) 3 e)
   magic-within r32.Unread e = refused-is 2 t e
 
   -- all tables lie within the file
@@ -87,11 +87,11 @@ module _ (file : List ℕ) (t : Tables) (w : Within file t) where
   table_fits =
       rw length-drop (omega (arith, w.addrs-end))
 
-  pub table-full : isWidth t.offset_size ≡ true → length (table_of file t) ≡ t.count
+  pub table-full : is_width t.offset_size ≡ true → length (table_of file t) ≡ t.count
   table-full h = length-table file t ∙ sym (len-fits t.offset_size t.count _ h table_fits)
 
-  pub offset-reads : (i : ℕ) → i < t.count → offsetAt file t i ≡ r32.Value (num_at 4 (drop t.offsets file) (i * 4))
-  unfolding offsetAt u32_at
+  pub offset-reads : (i : ℕ) → i < t.count → offset_at file t i ≡ r32.Value (num_at 4 (drop t.offsets file) (i * 4))
+  unfolding offset_at u32_at
   offset-reads i h =
       rw (lt-ltb _ _ h)
       (ap as32
@@ -101,12 +101,12 @@ module _ (file : List ℕ) (t : Tables) (w : Within file t) where
   -- a row of the file table at each index below the file count
   pub file-reads :
       (index : FileIndex) → index.0 < t.file_count →
-      fileAt file t index
+      file_at file t index
       ≡ row.Is (record {
         directory = record { 0 = num_at 4 (drop t.files file) (index.0 * 8) };
         filename = record { 0 = num_at 4 (drop t.files file) (index.0 * 8 + 4) };
       })
-  unfolding fileAt pair_at
+  unfolding file_at pair_at
   file-reads index h =
       let l : 8 ≤ length (drop t.files file) - index.0 * 8 =
       omega (arith, length-drop t.files file, w.files-end) in

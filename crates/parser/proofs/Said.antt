@@ -15,9 +15,9 @@ use Rattle.parser.specs.declared.FileRead.TheVariants as row
 use Rattle.parser.specs.declared.fixed.Pair.{Pair}
 use Rattle.parser.specs.declared.fixed.Pair.TheVariants as pair
 use Rattle.parser.specs.Search.{len_of, table_of}
-use Rattle.parser.specs.Entries.{symbol_at, offsetAt, asInfo, infoIn, onOffset, infoAt, coveredBy, asFile, fileAt}
+use Rattle.parser.specs.Entries.{symbol_at, offset_at, as_info, info_in, on_offset, info_at, covered_by, as_file, file_at}
 use Rattle.parser.proofs.Fields.{never, pair-within}
-use Rattle.parser.proofs.Table.{tableLen, length-table, table-entry}
+use Rattle.parser.proofs.Table.{table_len, length-table, table-entry}
 
 abbrev pub address : ℕ → Address
 address n = record { 0 = n }
@@ -30,7 +30,7 @@ module _ (file : List ℕ) (t : Tables) (i : ℕ) where
   -- the symbol's address
   module _ (rest : List ℕ) (n : ℕ) (d : rest ≡ drop t.addrs file)
       (c : n ≡ len_of t.offset_size t.count (length rest)) where
-    len_is : n ≡ tableLen file t
+    len_is : n ≡ table_len file t
     len_is = rw d at c
 
     pub symbol-past : n ≤ i → t.base.0 < 2 ^ 64 → t.base ≡ symbol_at file t i
@@ -52,49 +52,49 @@ module _ (file : List ℕ) (t : Tables) (i : ℕ) where
         ap address (g ∙ ap (λ x. (t.base.0 + x) % 2 ^ 64) k)
 
   -- size and name
-  pub info-none : t.count ≤ i → info.Unread ≡ infoAt file t i
-  unfolding infoAt onOffset offsetAt
+  pub info-none : t.count ≤ i → info.Unread ≡ info_at file t i
+  unfolding info_at on_offset offset_at
   info-none h = rw (le-ltb _ _ h)
 
   pub info-there :
       (r : Read32) (rest : List ℕ) → i < t.count → rest ≡ drop t.offsets file → r ≡ u32_at rest (i * 4) →
-      onOffset file r ≡ infoAt file t i
-  unfolding infoAt offsetAt
+      on_offset file r ≡ info_at file t i
+  unfolding info_at offset_at
   info-there r rest h d e = rw (lt-ltb _ _ h, ← d, ← e)
 
 -- an entry's first item stands behind size and name, in the file
 module _ (file : List ℕ) (at : ℕ) (a : AddrInfo) where
-  pub info-items : infoIn file at ≡ info.Is a → (a.items ≡ at + 8) × (a.items ≤ length file)
-  unfolding infoIn
+  pub info-items : info_in file at ≡ info.Is a → (a.items ≡ at + 8) × (a.items ≤ length file)
+  unfolding info_in
   info-items e = go (pair_at file at) refl e
     where
-      go : (p : Pair) → pair_at file at ≡ p → asInfo at p ≡ info.Is a → (a.items ≡ at + 8) × (a.items ≤ length file)
+      go : (p : Pair) → pair_at file at ≡ p → as_info at p ≡ info.Is a → (a.items ≡ at + 8) × (a.items ≤ length file)
       go (pair.Is size name) q f =
           let i : a.items ≡ at + 8 = sym (ap items_of f) in (i, omega (arith, pair-within file at size name (sym q)))
       go pair.Unread q f = let z : ◌≡◌ {A = ℕ} 0 1 = cc in never z
 
 -- the size rule
 module _ (addr symbol : Address) (size : ℕ) where
-  pub covers_below : addr.0 < symbol.0 → false ≡ coveredBy addr symbol size
-  unfolding coveredBy
+  pub covers_below : addr.0 < symbol.0 → false ≡ covered_by addr symbol size
+  unfolding covered_by
   covers_below h = rw (lt-ltb _ _ h)
 
-  pub covers-all : symbol.0 ≤ addr.0 → size ≡ 0 → true ≡ coveredBy addr symbol size
-  unfolding coveredBy
+  pub covers-all : symbol.0 ≤ addr.0 → size ≡ 0 → true ≡ covered_by addr symbol size
+  unfolding covered_by
   covers-all h e = rw (le-ltb _ _ h, eq-eqb _ _ e)
 
-  pub covers-size : symbol.0 ≤ addr.0 → (size ≡ 0 → ⊥) → ltb (addr.0 - symbol.0) size ≡ coveredBy addr symbol size
-  unfolding coveredBy
+  pub covers-size : symbol.0 ≤ addr.0 → (size ≡ 0 → ⊥) → ltb (addr.0 - symbol.0) size ≡ covered_by addr symbol size
+  unfolding covered_by
   covers-size h n = rw (le-ltb _ _ h, ne_eqb _ _ n)
 
 -- the file table
 module _ (file : List ℕ) (t : Tables) (index : FileIndex) where
-  pub file-none : t.file_count ≤ index.0 → row.Unread ≡ fileAt file t index
-  unfolding fileAt
+  pub file-none : t.file_count ≤ index.0 → row.Unread ≡ file_at file t index
+  unfolding file_at
   file-none h = rw (le-ltb _ _ h)
 
   pub file-there :
       (p : Pair) (rest : List ℕ) → index.0 < t.file_count → rest ≡ drop t.files file →
-      p ≡ pair_at rest (index.0 * 8) → asFile p ≡ fileAt file t index
-  unfolding fileAt
+      p ≡ pair_at rest (index.0 * 8) → as_file p ≡ file_at file t index
+  unfolding file_at
   file-there p rest h d e = rw (lt-ltb _ _ h, ← d, ← e)

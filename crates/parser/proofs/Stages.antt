@@ -2,14 +2,14 @@
 -- Assumes nothing.
 use Rattle.std.proofs.Common.{◌≡◌, ℕ, ◌+◌, ◌*◌, ◌^◌, ◌<◌, ◌≤◌, List, length, ◌∙◌, mul-le-mul, arith, eq-eqb, ne_eqb, le-leb}
 use borrow.Author.Tests.{lt-leb}
-use Rattle.reads.specs.Answers.{u16At, u32_at}
+use Rattle.reads.specs.Answers.{u16_at, u32_at}
 use Rattle.reads.specs.declared.Read16.TheVariants as r16
 use Rattle.reads.specs.declared.Read32.TheVariants as r32
 use Rattle.parser.specs.Numbers.{num_at}
 use Rattle.parser.specs.declared.Opened.TheVariants.{Is, Refused}
 use Rattle.parser.specs.declared.opening.Header.{Header}
-use Rattle.parser.specs.Header.{numbersOf, fileCountPlace, filesPlace, tablesWith, withFiles, tables_of}
-use Rattle.parser.specs.Header.{afterVersion, onVersion, onMagic, opened_of}
+use Rattle.parser.specs.Header.{numbers_of, file_count_place, files_place, tables_with, with_files, tables_of}
+use Rattle.parser.specs.Header.{after_version, on_version, on_magic, opened_of}
 
 abbrev pub header : ℕ → ℕ → ℕ → ℕ → ℕ → Header
 header size base count place len = record {
@@ -23,74 +23,74 @@ header size base count place len = record {
 module _ (file : List ℕ) where
   -- magic
   pub magic-right :
-      (m : ℕ) → r32.Value m ≡ u32_at file 0 → m ≡ 0x4753594d → onVersion file (u16At file 4) ≡ opened_of file
-  unfolding opened_of onMagic
+      (m : ℕ) → r32.Value m ≡ u32_at file 0 → m ≡ 0x4753594d → on_version file (u16_at file 4) ≡ opened_of file
+  unfolding opened_of on_magic
   magic-right m e h = rw (← e, eq-eqb _ _ h)
 
   pub magic-wrong : (m : ℕ) → r32.Value m ≡ u32_at file 0 → (m ≡ 0x4753594d → ⊥) → Refused 3 ≡ opened_of file
-  unfolding opened_of onMagic
+  unfolding opened_of on_magic
   magic-wrong m e h = rw (← e, ne_eqb _ _ h)
 
   pub magic-short : r32.Unread ≡ u32_at file 0 → Refused 2 ≡ opened_of file
-  unfolding opened_of onMagic
+  unfolding opened_of on_magic
   magic-short e = rw (← e)
 
   -- version
-  pub version-right : (v : ℕ) → r16.Value v ≡ u16At file 4 → v ≡ 1 → afterVersion file ≡ onVersion file (u16At file 4)
-  unfolding onVersion
+  pub version-right : (v : ℕ) → r16.Value v ≡ u16_at file 4 → v ≡ 1 → after_version file ≡ on_version file (u16_at file 4)
+  unfolding on_version
   version-right v e h = rw (← e, eq-eqb _ _ h)
 
-  pub version-wrong : (v : ℕ) → r16.Value v ≡ u16At file 4 → (v ≡ 1 → ⊥) → Refused 4 ≡ onVersion file (u16At file 4)
-  unfolding onVersion
+  pub version-wrong : (v : ℕ) → r16.Value v ≡ u16_at file 4 → (v ≡ 1 → ⊥) → Refused 4 ≡ on_version file (u16_at file 4)
+  unfolding on_version
   version-wrong v e h = rw (← e, ne_eqb _ _ h)
 
-  pub version-short : r16.Unread ≡ u16At file 4 → Refused 2 ≡ onVersion file (u16At file 4)
-  unfolding onVersion
+  pub version-short : r16.Unread ≡ u16_at file 4 → Refused 2 ≡ on_version file (u16_at file 4)
+  unfolding on_version
   version-short e = rw (← e)
 
   -- the header's numbers
   pub numbers-are :
       (size base count place len : ℕ) → size ≡ num_at 1 file 6 → base ≡ num_at 8 file 8 → count ≡ num_at 4 file 16 →
-      place ≡ num_at 4 file 20 → len ≡ num_at 4 file 24 → header size base count place len ≡ numbersOf file
-  unfolding numbersOf
+      place ≡ num_at 4 file 20 → len ≡ num_at 4 file 24 → header size base count place len ≡ numbers_of file
+  unfolding numbers_of
   numbers-are size base count place len a b c d e = rw (a, b, c, d, e)
 
-  pub header-there : 48 ≤ length file → tables_of file (numbersOf file) ≡ afterVersion file
-  unfolding afterVersion
+  pub header-there : 48 ≤ length file → tables_of file (numbers_of file) ≡ after_version file
+  unfolding after_version
   header-there h = rw (le-leb _ _ h)
 
-  pub header-short : length file < 48 → Refused 2 ≡ afterVersion file
-  unfolding afterVersion
+  pub header-short : length file < 48 → Refused 2 ≡ after_version file
+  unfolding after_version
   header-short h = rw (lt-leb _ _ h)
 
   -- the tables
   module _ (h : Header) where
-    pub offsets-short : length file < filesPlace h → Refused 2 ≡ tables_of file h
+    pub offsets-short : length file < files_place h → Refused 2 ≡ tables_of file h
     unfolding tables_of
     offsets-short l = rw (lt-leb _ _ l)
 
-    offsets-there : (n : ℕ) → filesPlace h ≤ length file → n ≡ num_at 4 file (fileCountPlace h)
-        → withFiles file h n ≡ tables_of file h
+    offsets-there : (n : ℕ) → files_place h ≤ length file → n ≡ num_at 4 file (file_count_place h)
+        → with_files file h n ≡ tables_of file h
     unfolding tables_of
     offsets-there n l e = rw (le-leb _ _ l, e)
 
-    module _ (n : ℕ) (l : filesPlace h ≤ length file) (e : n ≡ num_at 4 file (fileCountPlace h)) where
-      pub files-short : length file < filesPlace h + n * 8 → Refused 2 ≡ tables_of file h
-      unfolding withFiles
+    module _ (n : ℕ) (l : files_place h ≤ length file) (e : n ≡ num_at 4 file (file_count_place h)) where
+      pub files-short : length file < files_place h + n * 8 → Refused 2 ≡ tables_of file h
+      unfolding with_files
       files-short s =
-          let q : Refused 2 ≡ withFiles file h n = rw (lt-leb _ _ s) in q ∙ offsets-there n l e
+          let q : Refused 2 ≡ with_files file h n = rw (lt-leb _ _ s) in q ∙ offsets-there n l e
 
-      pub strings-short : filesPlace h + n * 8 ≤ length file → length file < h.strings_offset + h.strings_size
+      pub strings-short : files_place h + n * 8 ≤ length file → length file < h.strings_offset + h.strings_size
           → Refused 2 ≡ tables_of file h
-      unfolding withFiles
+      unfolding with_files
       strings-short f s =
-          let q : Refused 2 ≡ withFiles file h n = rw (le-leb _ _ f, lt-leb _ _ s) in q ∙ offsets-there n l e
+          let q : Refused 2 ≡ with_files file h n = rw (le-leb _ _ f, lt-leb _ _ s) in q ∙ offsets-there n l e
 
-      pub all_there : filesPlace h + n * 8 ≤ length file → h.strings_offset + h.strings_size ≤ length file
-          → Is (tablesWith h n) ≡ tables_of file h
-      unfolding withFiles
+      pub all_there : files_place h + n * 8 ≤ length file → h.strings_offset + h.strings_size ≤ length file
+          → Is (tables_with h n) ≡ tables_of file h
+      unfolding with_files
       all_there f s =
-          let q : Is (tablesWith h n) ≡ withFiles file h n = rw (le-leb _ _ f, le-leb _ _ s) in q ∙ offsets-there n l e
+          let q : Is (tables_with h n) ≡ with_files file h n = rw (le-leb _ _ f, le-leb _ _ s) in q ∙ offsets-there n l e
 
 -- the address table's size
 pub product_small : (count size : ℕ) → count < 2 ^ 32 → size < 2 ^ 8 → count * size ≤ 2 ^ 32 * 2 ^ 8

@@ -3,30 +3,30 @@
 use Rattle.std.proofs.Common.{◌≡◌, ℕ, ◌+◌, ◌<◌, ◌≤◌, Bool, true, false, eqb, List, length, sym, refl, ap, ◌∙◌, ⊎_elim, arith, eq-eqb, ne_eqb, le-leb}
 use borrow.Author.Tests.{lt-leb, eqb-false}
 use Rattle.reads.specs.Pick.{pick}
-use Rattle.reads.specs.Bytes.{Fixed, value, unread, leAt}
+use Rattle.reads.specs.Bytes.{Fixed, value, unread, le_at}
 use Rattle.reads.specs.Answers.{as32, u32_at}
 use Rattle.reads.specs.declared.Read32.{Read32}
 use Rattle.reads.specs.declared.Read32.TheVariants as r32
 use Rattle.reads.proofs.Orders.{lt-or-ge}
 use Rattle.reads.proofs.Places.{within}
 use Rattle.parser.specs.declared.Item.TheVariants.{Is, Closed, Torn}
-use Rattle.parser.specs.Items.{onLen, onKind, item_at}
+use Rattle.parser.specs.Items.{on_len, on_kind, item_at}
 use Rattle.parser.proofs.Fields.{never}
 
 module _ (file : List ℕ) (at : ℕ) where
   -- by the type
   pub kind-zero : (k : ℕ) → r32.Value k ≡ u32_at file at → k ≡ 0 → Closed ≡ item_at file at
-  unfolding item_at onKind
+  unfolding item_at on_kind
   kind-zero k e z = rw (← e, eq-eqb _ _ z)
 
   pub kind-other :
       (k : ℕ) → r32.Value k ≡ u32_at file at → (k ≡ 0 → ⊥) →
-      onLen file at k (u32_at file (at + 4)) ≡ item_at file at
-  unfolding item_at onKind
+      on_len file at k (u32_at file (at + 4)) ≡ item_at file at
+  unfolding item_at on_kind
   kind-other k e z = rw (← e, ne_eqb _ _ z)
 
   pub kind-unread : r32.Unread ≡ u32_at file at → Torn ≡ item_at file at
-  unfolding item_at onKind
+  unfolding item_at on_kind
   kind-unread e = rw (← e)
 
   read_as : (f : Fixed) (v : ℕ) → r32.Value v ≡ as32 f → f ≡ value v
@@ -36,22 +36,22 @@ module _ (file : List ℕ) (at : ℕ) where
   -- a number that was read lies within the file
   pub read-within : (v : ℕ) → r32.Value v ≡ u32_at file at → at + 4 ≤ length file
   unfolding u32_at
-  read-within v e = within file at 4 v (omega arith) (read_as (leAt 4 file at) v e)
+  read-within v e = within file at 4 v (omega arith) (read_as (le_at 4 file at) v e)
 
 -- by the length
 module _ (file : List ℕ) (at kind : ℕ) where
   pub item-fits : (n : ℕ) → r32.Value n ≡ u32_at file (at + 4) → at + 8 + n ≤ length file
-      → Is kind (at + 8) n (at + 8 + n) ≡ onLen file at kind (u32_at file (at + 4))
-  unfolding onLen
+      → Is kind (at + 8) n (at + 8 + n) ≡ on_len file at kind (u32_at file (at + 4))
+  unfolding on_len
   item-fits n e h = rw (← e, le-leb _ _ h)
 
   pub item-torn : (n : ℕ) → r32.Value n ≡ u32_at file (at + 4) → length file < at + 8 + n
-      → Torn ≡ onLen file at kind (u32_at file (at + 4))
-  unfolding onLen
+      → Torn ≡ on_len file at kind (u32_at file (at + 4))
+  unfolding on_len
   item-torn n e h = rw (← e, lt-leb _ _ h)
 
-  pub item-unread : r32.Unread ≡ u32_at file (at + 4) → Torn ≡ onLen file at kind (u32_at file (at + 4))
-  unfolding onLen
+  pub item-unread : r32.Unread ≡ u32_at file (at + 4) → Torn ≡ on_len file at kind (u32_at file (at + 4))
+  unfolding on_len
   item-unread e = rw (← e)
 
 -- an item: its bytes follow type and length, the next item follows them, and they lie in the file
@@ -69,9 +69,9 @@ module _ (file : List ℕ) (at kind place len next : ℕ) where
   closed_is e = let z : ◌≡◌ {A = ℕ} 0 1 = cc in never z
 
   len-ahead :
-      (k : ℕ) (r : Read32) → (k ≡ 0 → ⊥) → onLen file at k r ≡ Is kind place len next →
+      (k : ℕ) (r : Read32) → (k ≡ 0 → ⊥) → on_len file at k r ≡ Is kind place len next →
       Ahead file at kind place len next
-  unfolding onLen
+  unfolding on_len
   len-ahead k (r32.Value n) z e =
       ⊎_elim
       (λ (l : length file < at + 8 + n).
@@ -86,11 +86,11 @@ module _ (file : List ℕ) (at kind place len next : ℕ) where
       (lt-or-ge (length file) (at + 8 + n))
   len-ahead k r32.Unread z e = torn-is e
 
-  kind-ahead : (r : Read32) → onKind file at r ≡ Is kind place len next → Ahead file at kind place len next
-  unfolding onKind
+  kind-ahead : (r : Read32) → on_kind file at r ≡ Is kind place len next → Ahead file at kind place len next
+  unfolding on_kind
   kind-ahead (r32.Value k) e = go (eqb k 0) refl e
     where
-      go : (b : Bool) → eqb k 0 ≡ b → pick b Closed (onLen file at k (u32_at file (at + 4))) ≡ Is kind place len next
+      go : (b : Bool) → eqb k 0 ≡ b → pick b Closed (on_len file at k (u32_at file (at + 4))) ≡ Is kind place len next
           → Ahead file at kind place len next
       go true q f = closed_is f
       go false q f = len-ahead k (u32_at file (at + 4)) (eqb-false k 0 q) f

@@ -6,7 +6,7 @@ use Rattle.types.specs.declared.Address.{Address}
 use Rattle.parser.specs.declared.Tables.{Tables}
 use Rattle.parser.specs.declared.Found.TheVariants.{At, Unknown}
 use Rattle.parser.specs.Header.{Within}
-use Rattle.parser.specs.Search.{isWidth, table_of, findIn, findOf, Chosen, Nowhere}
+use Rattle.parser.specs.Search.{is_width, table_of, find_in, find_of, Chosen, Nowhere}
 use Rattle.parser.specs.Search.{below-base, other-size, no-entries, first_above}
 use Rattle.parser.specs.Entries.{symbol_at}
 use Rattle.parser.proofs.Fields.{never}
@@ -17,16 +17,16 @@ use Rattle.parser.proofs.Choice.{found-chosen, unknown-why}
 
 module _ (file : List ℕ) (t : Tables) (addr : Address) where
   -- above the base it is the search on the list of entries
-  pub find-in-table : t.base.0 ≤ addr.0 → findOf file t addr ≡ findIn (table_of file t) (addr.0 - t.base.0)
-  unfolding findOf
+  pub find-in-table : t.base.0 ≤ addr.0 → find_of file t addr ≡ find_in (table_of file t) (addr.0 - t.base.0)
+  unfolding find_of
   find-in-table h = rw (le-ltb _ _ h)
 
-  pub find-below-base : addr.0 < t.base.0 → findOf file t addr ≡ Unknown
-  unfolding findOf
+  pub find-below-base : addr.0 < t.base.0 → find_of file t addr ≡ Unknown
+  unfolding find_of
   find-below-base h = rw (lt-ltb _ _ h)
 
   -- the chosen entry
-  module _ (i : ℕ) (e : findOf file t addr ≡ At i) where
+  module _ (i : ℕ) (e : find_of file t addr ≡ At i) where
     pub find-base : t.base.0 ≤ addr.0
     find-base =
         ⊎_elim
@@ -58,13 +58,13 @@ module _ (file : List ℕ) (t : Tables) (addr : Address) where
 
   -- unknown exactly in document 01's cases, in a file within which the tables lie
   no_table : Within file t → length (table_of file t) ≡ 0 → Nowhere file t addr
-  no_table w e = go (isWidth t.offset_size) refl
+  no_table w e = go (is_width t.offset_size) refl
     where
-      go : (b : Bool) → isWidth t.offset_size ≡ b → Nowhere file t addr
+      go : (b : Bool) → is_width t.offset_size ≡ b → Nowhere file t addr
       go true q = no-entries (sym (table-full file t w q) ∙ e)
       go false q = other-size q
 
-  pub find-unknown : Within file t → findOf file t addr ≡ Unknown → Nowhere file t addr
+  pub find-unknown : Within file t → find_of file t addr ≡ Unknown → Nowhere file t addr
   find-unknown w e =
       ⊎_elim
       (λ (l : addr.0 < t.base.0). below-base l)
@@ -75,14 +75,14 @@ module _ (file : List ℕ) (t : Tables) (addr : Address) where
       (unknown-why (table_of file t) (addr.0 - t.base.0) (sym (find-in-table l) ∙ e)))
       (lt-or-ge addr.0 t.base.0)
 
-  empty-unknown : length (table_of file t) ≡ 0 → findOf file t addr ≡ Unknown
+  empty-unknown : length (table_of file t) ≡ 0 → find_of file t addr ≡ Unknown
   empty-unknown e =
       ⊎_elim
       (λ (l : addr.0 < t.base.0). find-below-base l)
       (λ (l : t.base.0 ≤ addr.0). find-in-table l ∙ sym (find-empty (table_of file t) (addr.0 - t.base.0) e))
       (lt-or-ge addr.0 t.base.0)
 
-  pub unknown-find : Nowhere file t addr → findOf file t addr ≡ Unknown
+  pub unknown-find : Nowhere file t addr → find_of file t addr ≡ Unknown
   unknown-find (below-base h) = find-below-base h
   unknown-find (other-size h) = empty-unknown (table_none file t h)
   unknown-find (no-entries h) =

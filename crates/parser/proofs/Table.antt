@@ -5,43 +5,43 @@ use borrow.Author.Tests.{lt-leb}
 use Rattle.reads.specs.Pick.{pick}
 use Rattle.parser.specs.Numbers.{num_at}
 use Rattle.parser.specs.declared.Tables.{Tables}
-use Rattle.parser.specs.Search.{isWidth, len_of, entries, table_of}
+use Rattle.parser.specs.Search.{is_width, len_of, entries, table_of}
 
 -- which sizes give entries
 module _ (size : ℕ) where
-  pub is-width : (size ≡ 1) ⊎ ((size ≡ 2) ⊎ ((size ≡ 4) ⊎ (size ≡ 8))) → isWidth size ≡ true
+  pub is-width : (size ≡ 1) ⊎ ((size ≡ 2) ⊎ ((size ≡ 4) ⊎ (size ≡ 8))) → is_width size ≡ true
   is-width (inl h) = rw h
   is-width (inr (inl h)) = rw h
   is-width (inr (inr (inl h))) = rw h
   is-width (inr (inr (inr h))) = rw h
 
-  pub no-width : (size ≡ 1 → ⊥) → (size ≡ 2 → ⊥) → (size ≡ 4 → ⊥) → (size ≡ 8 → ⊥) → isWidth size ≡ false
+  pub no-width : (size ≡ 1 → ⊥) → (size ≡ 2 → ⊥) → (size ≡ 4 → ⊥) → (size ≡ 8 → ⊥) → is_width size ≡ false
   no-width a b c d = rw (ne_eqb _ _ a, ne_eqb _ _ b, ne_eqb _ _ c, ne_eqb _ _ d)
 
-  pub last-width : isWidth size ≡ true → (size ≡ 1 → ⊥) → (size ≡ 2 → ⊥) → (size ≡ 4 → ⊥) → size ≡ 8
+  pub last-width : is_width size ≡ true → (size ≡ 1 → ⊥) → (size ≡ 2 → ⊥) → (size ≡ 4 → ⊥) → size ≡ 8
   last-width w a b c = eqb-true size 8 (simp (ne_eqb _ _ a, ne_eqb _ _ b, ne_eqb _ _ c) at w)
 
   module _ (count room : ℕ) where
-    pub len-fits : isWidth size ≡ true → count * size ≤ room → count ≡ len_of size count room
+    pub len-fits : is_width size ≡ true → count * size ≤ room → count ≡ len_of size count room
     unfolding len_of
     len-fits w h = rw (w, le-leb _ _ h)
 
-    pub len-full : isWidth size ≡ true → room < count * size → 0 ≡ len_of size count room
+    pub len-full : is_width size ≡ true → room < count * size → 0 ≡ len_of size count room
     unfolding len_of
     len-full w h = rw (w, lt-leb _ _ h)
 
-    pub len-other : isWidth size ≡ false → 0 ≡ len_of size count room
+    pub len-other : is_width size ≡ false → 0 ≡ len_of size count room
     unfolding len_of
     len-other w = rw w
 
     -- entries there are only at those sizes; they are no more than the count, and fit
-    width-if : (b : Bool) (n : ℕ) → isWidth size ≡ b → 0 < pick b n 0 → isWidth size ≡ true
+    width-if : (b : Bool) (n : ℕ) → is_width size ≡ b → 0 < pick b n 0 → is_width size ≡ true
     width-if true n e h = e
     width-if false n e h = absurd (omega arith)
 
-    pub len-width : 0 < len_of size count room → isWidth size ≡ true
+    pub len-width : 0 < len_of size count room → is_width size ≡ true
     unfolding len_of
-    len-width h = width-if (isWidth size) (pick (leb (count * size) room) count 0) refl h
+    len-width h = width-if (is_width size) (pick (leb (count * size) room) count 0) refl h
 
     le-if : (b c : Bool) → pick b (pick c count 0) 0 ≤ count
     le-if true true = omega arith
@@ -50,7 +50,7 @@ module _ (size : ℕ) where
 
     pub len-le : len_of size count room ≤ count
     unfolding len_of
-    len-le = le-if (isWidth size) (leb (count * size) room)
+    len-le = le-if (is_width size) (leb (count * size) room)
 
     room-if : (b c : Bool) → leb (count * size) room ≡ c → pick b (pick c count 0) 0 * size ≤ room
     room-if true true e = leb-true (count * size) room e
@@ -59,7 +59,7 @@ module _ (size : ℕ) where
 
     pub len-room : len_of size count room * size ≤ room
     unfolding len_of
-    len-room = room-if (isWidth size) (leb (count * size) room) refl
+    len-room = room-if (is_width size) (leb (count * size) room) refl
 
 -- the bytes of an entry below a length that fits
 pub entry-room : (size n i room : ℕ) → n * size ≤ room → i < n → i * size + size ≤ room
@@ -93,26 +93,26 @@ entry-is size (suc n) (suc i) bytes h =
     ∙ ap (num_at size bytes) (omega arith)
 
 -- how many entries the table of a file has
-abbrev pub tableLen : List ℕ → Tables → ℕ
-tableLen file t = len_of t.offset_size t.count (length (drop t.addrs file))
+abbrev pub table_len : List ℕ → Tables → ℕ
+table_len file t = len_of t.offset_size t.count (length (drop t.addrs file))
 
 module _ (file : List ℕ) (t : Tables) where
-  pub length-table : length (table_of file t) ≡ tableLen file t
+  pub length-table : length (table_of file t) ≡ table_len file t
   unfolding table_of
-  length-table = length-entries t.offset_size (tableLen file t) (drop t.addrs file)
+  length-table = length-entries t.offset_size (table_len file t) (drop t.addrs file)
 
-  pub table_none : isWidth t.offset_size ≡ false → length (table_of file t) ≡ 0
+  pub table_none : is_width t.offset_size ≡ false → length (table_of file t) ≡ 0
   unfolding len_of
   table_none h = length-table ∙ rw h
 
   -- an entry, counted from the table's place and from the file's start
   pub table-entry :
-      (i : ℕ) → i < tableLen file t →
+      (i : ℕ) → i < table_len file t →
       get_or (table_of file t) i 0 ≡ num_at t.offset_size (drop t.addrs file) (i * t.offset_size)
   unfolding table_of
-  table-entry i h = entry-is t.offset_size (tableLen file t) i (drop t.addrs file) h
+  table-entry i h = entry-is t.offset_size (table_len file t) i (drop t.addrs file) h
 
   pub table-entry-at :
-      (i : ℕ) → i < tableLen file t →
+      (i : ℕ) → i < table_len file t →
       get_or (table_of file t) i 0 ≡ num_at t.offset_size file (t.addrs + i * t.offset_size)
   table-entry-at i h = table-entry i h ∙ num-drop t.offset_size (i * t.offset_size) t.addrs file

@@ -9,7 +9,7 @@ use Rattle.types.specs.declared.Address.{Address}
 use Rattle.parser.specs.Numbers.{num_at}
 use Rattle.parser.specs.declared.Tables.{Tables}
 use Rattle.parser.specs.declared.Found.TheVariants.{At, Unknown}
-use Rattle.parser.specs.Search.{chosenFrom, findIn, len_of, entries, table_of, findOf}
+use Rattle.parser.specs.Search.{chosen_from, find_in, len_of, entries, table_of, find_of}
 use Rattle.parser.proofs.Table.{length-entries, entry-is}
 use Rattle.parser.proofs.Halving.{moved, chosen-from-end, chosen-from-turn, find-empty, find-above, find_at}
 
@@ -55,7 +55,7 @@ module _ (size n : ℕ) (bytes : List ℕ) (wanted : ℕ) where
   pub record Sofar (lo len : ℕ) : Type 0 where
     pub some : 1 ≤ len
     pub inside : lo + len ≤ n
-    pub same : chosenFrom (entries size n bytes) wanted 0 n ≡ chosenFrom (entries size n bytes) wanted lo len
+    pub same : chosen_from (entries size n bytes) wanted 0 n ≡ chosen_from (entries size n bytes) wanted lo len
 
   pub begins : (n ≡ 0 → ⊥) → Sofar 0 n
   begins h = record { some = omega arith; inside = omega arith; same = refl }
@@ -69,7 +69,7 @@ module _ (size n : ℕ) (bytes : List ℕ) (wanted : ℕ) where
         inside = low (leb e wanted) m;
         same =
             s.same ∙ chosen-from-turn (entries size n bytes) wanted lo len h
-            ∙ ap (λ x. chosenFrom (entries size n bytes) wanted x (len - len / 2)) (sym g);
+            ∙ ap (λ x. chosen_from (entries size n bytes) wanted x (len - len / 2)) (sym g);
       }
     where
       low : (b : Bool) → by ≡ pick b (len / 2) 0 → lo + by + (len - len / 2) ≤ n
@@ -87,36 +87,36 @@ module _ (size n : ℕ) (bytes : List ℕ) (wanted : ℕ) where
           where_to (leb e wanted) m ∙ ap (λ x. pick (leb x wanted) (lo + len / 2) lo) q
 
   -- no entries, or the first above
-  pub none : n ≡ 0 → Unknown ≡ findIn (entries size n bytes) wanted
+  pub none : n ≡ 0 → Unknown ≡ find_in (entries size n bytes) wanted
   none h = find-empty (entries size n bytes) wanted (length-entries size n bytes ∙ h)
 
   first-is : (e : ℕ) → (n ≡ 0 → ⊥) → e ≡ num_at size bytes (0 * size) → e ≡ get_or (entries size n bytes) 0 0
   first-is e h r = r ∙ sym (entry-is size n 0 bytes (omega arith))
 
   pub starts-above : (e : ℕ) → (n ≡ 0 → ⊥) → e ≡ num_at size bytes (0 * size) → wanted < e
-      → Unknown ≡ findIn (entries size n bytes) wanted
+      → Unknown ≡ find_in (entries size n bytes) wanted
   starts-above e h r l =
       find-above (entries size n bytes) wanted (λ z. h (sym (length-entries size n bytes) ∙ z))
       (omega (arith, first-is e h r))
 
   pub ended :
       (e lo len : ℕ) → (n ≡ 0 → ⊥) → e ≡ num_at size bytes (0 * size) → e ≤ wanted → len ≤ 1 → Sofar lo len →
-      At lo ≡ findIn (entries size n bytes) wanted
+      At lo ≡ find_in (entries size n bytes) wanted
   ended e lo len h r l m s =
       find_at (entries size n bytes) wanted lo (λ z. h (sym (length-entries size n bytes) ∙ z))
       (omega (arith, first-is e h r))
-      (ap (chosenFrom (entries size n bytes) wanted 0) (length-entries size n bytes)
+      (ap (chosen_from (entries size n bytes) wanted 0) (length-entries size n bytes)
       ∙ s.same ∙ chosen-from-end (entries size n bytes) wanted lo len m)
 
 -- the address above the base or not
 module _ (file : List ℕ) (t : Tables) (addr : Address) where
-  pub base_above : addr.0 < t.base.0 → Unknown ≡ findOf file t addr
-  unfolding findOf
+  pub base_above : addr.0 < t.base.0 → Unknown ≡ find_of file t addr
+  unfolding find_of
   base_above h = rw (lt-ltb _ _ h)
 
   pub from-base :
       (n : ℕ) (rest : List ℕ) → t.base.0 ≤ addr.0 → n ≡ len_of t.offset_size t.count (length rest) →
       rest ≡ drop t.addrs file →
-      findIn (entries t.offset_size n rest) (addr.0 - t.base.0) ≡ findOf file t addr
-  unfolding findOf table_of
+      find_in (entries t.offset_size n rest) (addr.0 - t.base.0) ≡ find_of file t addr
+  unfolding find_of table_of
   from-base n rest h e d = rw (le-ltb _ _ h, e, d)

@@ -29,35 +29,35 @@ unfoldable pub symbol_at : List ℕ → Tables → ℕ → Address
 symbol_at file t i = record { 0 = (t.base.0 + slice_index (table_of file t) i) % 2 ^ 64 }
 
 -- the data offset of an entry
-unfoldable pub offsetAt : List ℕ → Tables → ℕ → Read32
-offsetAt file t i = pick (nat_lt i t.count) (u32_at (drop t.offsets file) (i * 4)) r32.Unread
+unfoldable pub offset_at : List ℕ → Tables → ℕ → Read32
+offset_at file t i = pick (nat_lt i t.count) (u32_at (drop t.offsets file) (i * 4)) r32.Unread
 
 -- size and name at a place, and the place of the first item: fewer than 8 bytes there don't read
-abbrev pub asInfo : ℕ → Pair → InfoRead
-asInfo at (pair.Is size name) = info.Is (record { size = size; name = record { 0 = name }; items = at + 8 })
-asInfo at pair.Unread = info.Unread
+abbrev pub as_info : ℕ → Pair → InfoRead
+as_info at (pair.Is size name) = info.Is (record { size = size; name = record { 0 = name }; items = at + 8 })
+as_info at pair.Unread = info.Unread
 
-unfoldable pub infoIn : List ℕ → ℕ → InfoRead
-infoIn file at = asInfo at (pair_at file at)
+unfoldable pub info_in : List ℕ → ℕ → InfoRead
+info_in file at = as_info at (pair_at file at)
 
 -- size and name of an entry
-unfoldable pub onOffset : List ℕ → Read32 → InfoRead
-onOffset file (r32.Value at) = infoIn file at
-onOffset file r32.Unread = info.Unread
+unfoldable pub on_offset : List ℕ → Read32 → InfoRead
+on_offset file (r32.Value at) = info_in file at
+on_offset file r32.Unread = info.Unread
 
-unfoldable pub infoAt : List ℕ → Tables → ℕ → InfoRead
-infoAt file t i = onOffset file (offsetAt file t i)
+unfoldable pub info_at : List ℕ → Tables → ℕ → InfoRead
+info_at file t i = on_offset file (offset_at file t i)
 
 -- whether a symbol covers an address: size 0 everything from the symbol's address on
-unfoldable pub coveredBy : Address → Address → ℕ → Bool
-coveredBy addr symbol size =
+unfoldable pub covered_by : Address → Address → ℕ → Bool
+covered_by addr symbol size =
     pick (nat_lt addr.0 symbol.0) false (pick (size == 0) true (nat_lt (addr.0 - symbol.0) size))
 
 -- directory and file name at an index below the file count
-abbrev pub asFile : Pair → FileRead
-asFile (pair.Is dir name) = row.Is (record { directory = record { 0 = dir }; filename = record { 0 = name } })
-asFile pair.Unread = row.Unread
+abbrev pub as_file : Pair → FileRead
+as_file (pair.Is dir name) = row.Is (record { directory = record { 0 = dir }; filename = record { 0 = name } })
+as_file pair.Unread = row.Unread
 
-unfoldable pub fileAt : List ℕ → Tables → FileIndex → FileRead
-fileAt file t index =
-    pick (nat_lt index.0 t.file_count) (asFile (pair_at (drop t.files file) (index.0 * 8))) row.Unread
+unfoldable pub file_at : List ℕ → Tables → FileIndex → FileRead
+file_at file t index =
+    pick (nat_lt index.0 t.file_count) (as_file (pair_at (drop t.files file) (index.0 * 8))) row.Unread

@@ -19,7 +19,7 @@
 -- Assumes nothing.
 use Rattle.std.specs.Prelude.{◌≡◌, ℕ, ◌+◌, ◌*◌, ◌/◌, ◌≤◌, List, length, ◌==◌, nat_le}
 use Rattle.reads.specs.Pick.{pick}
-use Rattle.reads.specs.Answers.{u16At, u32_at}
+use Rattle.reads.specs.Answers.{u16_at, u32_at}
 use Rattle.reads.specs.declared.Read16.{Read16}
 use Rattle.reads.specs.declared.Read16.TheVariants as r16
 use Rattle.reads.specs.declared.Read32.{Read32}
@@ -31,8 +31,8 @@ use Rattle.parser.specs.declared.opening.Header.{Header}
 use Rattle.parser.specs.Numbers.{num_at}
 
 -- the header's numbers
-unfoldable pub numbersOf : List ℕ → Header
-numbersOf file = record {
+unfoldable pub numbers_of : List ℕ → Header
+numbers_of file = record {
   offset_size = num_at 1 file 6;
   base = record { 0 = num_at 8 file 8 };
   count = num_at 4 file 16;
@@ -41,67 +41,67 @@ numbersOf file = record {
 }
 
 -- a place, or the next one that is divisible by 4
-abbrev pub upTo4 : ℕ → ℕ
-upTo4 place = (place + 3) / 4 * 4
+abbrev pub up_to_4 : ℕ → ℕ
+up_to_4 place = (place + 3) / 4 * 4
 
 -- where the data offsets, the file count and the file table stand
-abbrev pub offsetsPlace : Header → ℕ
-offsetsPlace h = upTo4 (48 + h.count * h.offset_size)
+abbrev pub offsets_place : Header → ℕ
+offsets_place h = up_to_4 (48 + h.count * h.offset_size)
 
-abbrev pub fileCountPlace : Header → ℕ
-fileCountPlace h = offsetsPlace h + h.count * 4
+abbrev pub file_count_place : Header → ℕ
+file_count_place h = offsets_place h + h.count * 4
 
-abbrev pub filesPlace : Header → ℕ
-filesPlace h = fileCountPlace h + 4
+abbrev pub files_place : Header → ℕ
+files_place h = file_count_place h + 4
 
 -- the tables, where the file count is n
-abbrev pub tablesWith : Header → ℕ → Tables
-tablesWith h n = record {
+abbrev pub tables_with : Header → ℕ → Tables
+tables_with h n = record {
   offset_size = h.offset_size;
   base = h.base;
   count = h.count;
   addrs = 48;
-  offsets = offsetsPlace h;
+  offsets = offsets_place h;
   file_count = n;
-  files = filesPlace h;
+  files = files_place h;
   strings = record { place = h.strings_offset; size = h.strings_size };
 }
 
 -- the file table and the string table lie in the file, or too few bytes are there
-unfoldable pub withFiles : List ℕ → Header → ℕ → Opened
-withFiles file h n =
-    pick (nat_le (filesPlace h + n * 8) (length file))
-    (pick (nat_le (h.strings_offset + h.strings_size) (length file)) (Is (tablesWith h n)) (Refused 2))
+unfoldable pub with_files : List ℕ → Header → ℕ → Opened
+with_files file h n =
+    pick (nat_le (files_place h + n * 8) (length file))
+    (pick (nat_le (h.strings_offset + h.strings_size) (length file)) (Is (tables_with h n)) (Refused 2))
     (Refused 2)
 
 -- the address table, the data offsets and the file count lie in the file, or too few bytes are there
 unfoldable pub tables_of : List ℕ → Header → Opened
 tables_of file h =
-    pick (nat_le (filesPlace h) (length file)) (withFiles file h (num_at 4 file (fileCountPlace h))) (Refused 2)
+    pick (nat_le (files_place h) (length file)) (with_files file h (num_at 4 file (file_count_place h))) (Refused 2)
 
 -- the header lies in the file, or too few bytes are there
-unfoldable pub afterVersion : List ℕ → Opened
-afterVersion file = pick (nat_le 48 (length file)) (tables_of file (numbersOf file)) (Refused 2)
+unfoldable pub after_version : List ℕ → Opened
+after_version file = pick (nat_le 48 (length file)) (tables_of file (numbers_of file)) (Refused 2)
 
 -- version is judged once 6 bytes are there
-unfoldable pub onVersion : List ℕ → Read16 → Opened
-onVersion file (r16.Value version) = pick (version == 1) (afterVersion file) (Refused 4)
-onVersion file r16.Unread = Refused 2
+unfoldable pub on_version : List ℕ → Read16 → Opened
+on_version file (r16.Value version) = pick (version == 1) (after_version file) (Refused 4)
+on_version file r16.Unread = Refused 2
 
 -- magic is judged once 4 bytes are there
-unfoldable pub onMagic : List ℕ → Read32 → Opened
-onMagic file (r32.Value magic) = pick (magic == 0x4753594d) (onVersion file (u16At file 4)) (Refused 3)
-onMagic file r32.Unread = Refused 2
+unfoldable pub on_magic : List ℕ → Read32 → Opened
+on_magic file (r32.Value magic) = pick (magic == 0x4753594d) (on_version file (u16_at file 4)) (Refused 3)
+on_magic file r32.Unread = Refused 2
 
 unfoldable pub opened_of : List ℕ → Opened
-opened_of file = onMagic file (u32_at file 0)
+opened_of file = on_magic file (u32_at file 0)
 
 -- ---- what opening is held to
 
 -- where the tables stand, in file order, and that each ends within the file
 pub record Within (file : List ℕ) (t : Tables) : Type 0 where
   pub addrs : t.addrs ≡ 48
-  pub offsets : t.offsets ≡ upTo4 (t.addrs + t.count * t.offset_size)
+  pub offsets : t.offsets ≡ up_to_4 (t.addrs + t.count * t.offset_size)
   pub files : t.files ≡ t.offsets + t.count * 4 + 4
   pub addrs-end : t.addrs + t.count * t.offset_size ≤ length file
   pub offsets-end : t.offsets + t.count * 4 ≤ length file

@@ -14,16 +14,16 @@ use Rattle.parser.specs.declared.Item.{Item}
 use Rattle.parser.specs.declared.Item.TheVariants.{Is, Closed, Torn}
 
 -- an item of a type at a place, by what is read for its length: its bytes fit, or it is torn
-unfoldable pub onLen : List ℕ → ℕ → ℕ → Read32 → Item
-onLen file at kind (r32.Value len) =
+unfoldable pub on_len : List ℕ → ℕ → ℕ → Read32 → Item
+on_len file at kind (r32.Value len) =
     pick (nat_le (at + 8 + len) (length file)) (Is kind (at + 8) len (at + 8 + len)) Torn
-onLen file at kind r32.Unread = Torn
+on_len file at kind r32.Unread = Torn
 
 -- by what is read for its type: 0 closes the list
-unfoldable pub onKind : List ℕ → ℕ → Read32 → Item
-onKind file at (r32.Value kind) = pick (kind == 0) Closed (onLen file at kind (u32_at file (at + 4)))
-onKind file at r32.Unread = Torn
+unfoldable pub on_kind : List ℕ → ℕ → Read32 → Item
+on_kind file at (r32.Value kind) = pick (kind == 0) Closed (on_len file at kind (u32_at file (at + 4)))
+on_kind file at r32.Unread = Torn
 
 -- the item at a place
 unfoldable pub item_at : List ℕ → ℕ → Item
-item_at file at = onKind file at (u32_at file at)
+item_at file at = on_kind file at (u32_at file at)

@@ -2,7 +2,7 @@
 --
 --   address table    count numbers of offset size bytes, one after another; the offset size is 1, 2, 4 or 8
 --
--- The search is on a list of numbers; the file and its tables are in `table_of` and `findOf` alone. `findIn` is a search
+-- The search is on a list of numbers; the file and its tables are in `table_of` and `find_of` alone. `find_in` is a search
 -- by halving, so that the answer is settled in every table, also in one that falls, where several entries may fit. The
 -- laws `chosen` and `chosen-unique` give it its meaning.
 -- Assumes nothing.
@@ -23,22 +23,22 @@ halving (suc k) table wanted lo len =
 
 -- the index that is chosen among the len entries from lo on: each turn takes at least one of them away, so len turns
 -- are enough
-unfoldable pub chosenFrom : List ℕ → ℕ → ℕ → ℕ → ℕ
-chosenFrom table wanted lo len = halving len table wanted lo len
+unfoldable pub chosen_from : List ℕ → ℕ → ℕ → ℕ → ℕ
+chosen_from table wanted lo len = halving len table wanted lo len
 
 -- no entries, or the first entry above: unknown
-unfoldable pub findIn : List ℕ → ℕ → Found
-findIn table wanted =
+unfoldable pub find_in : List ℕ → ℕ → Found
+find_in table wanted =
     pick (length table == 0) Unknown
-    (pick (nat_lt wanted (slice_index table 0)) Unknown (At (chosenFrom table wanted 0 (length table))))
+    (pick (nat_lt wanted (slice_index table 0)) Unknown (At (chosen_from table wanted 0 (length table))))
 
 -- the offset sizes
-abbrev pub isWidth : ℕ → Bool
-isWidth size = pick (size == 1) true (pick (size == 2) true (pick (size == 4) true (size == 8)))
+abbrev pub is_width : ℕ → Bool
+is_width size = pick (size == 1) true (pick (size == 2) true (pick (size == 4) true (size == 8)))
 
 -- how many entries: none at another offset size, and none where they don't fit in the bytes there are
 unfoldable pub len_of : ℕ → ℕ → ℕ → ℕ
-len_of size count room = pick (isWidth size) (pick (nat_le (count * size) room) count 0) 0
+len_of size count room = pick (is_width size) (pick (nat_le (count * size) room) count 0) 0
 
 -- n numbers of a size, one after another
 unfoldable pub entries : ℕ → ℕ → List ℕ → List ℕ
@@ -53,15 +53,15 @@ table_of file t =
     (drop t.addrs file)
 
 -- the entry of an address: unknown below the base
-unfoldable pub findOf : List ℕ → Tables → Address → Found
-findOf file t addr = pick (nat_lt addr.0 t.base.0) Unknown (findIn (table_of file t) (addr.0 - t.base.0))
+unfoldable pub find_of : List ℕ → Tables → Address → Found
+find_of file t addr = pick (nat_lt addr.0 t.base.0) Unknown (find_in (table_of file t) (addr.0 - t.base.0))
 
 -- ---- what the search is held to
 
 -- document 01's four cases of an unknown address, in a file whose address table fits
 pub data Nowhere (file : List ℕ) (t : Tables) (addr : Address) : Type 0 where
   below-base : addr.0 < t.base.0 → Nowhere file t addr
-  other-size : isWidth t.offset_size ≡ false → Nowhere file t addr
+  other-size : is_width t.offset_size ≡ false → Nowhere file t addr
   no-entries : t.count ≡ 0 → Nowhere file t addr
   first_above : addr.0 - t.base.0 < slice_index (table_of file t) 0 → Nowhere file t addr
 
@@ -91,13 +91,13 @@ pub record LastNotAbove (table : List ℕ) (wanted i : ℕ) : Type 0 where
 
 -- the last entry of a table that isn't above, one entry after another: what the search comes to in a table that never
 -- falls
-unfoldable pub landFrom : ℕ → List ℕ → ℕ → Found → Found
-landFrom i [] wanted best = best
-landFrom i (e ∷ es) wanted best = landFrom (i + 1) es wanted (pick (nat_le e wanted) (At i) best)
+unfoldable pub land_from : ℕ → List ℕ → ℕ → Found → Found
+land_from i [] wanted best = best
+land_from i (e ∷ es) wanted best = land_from (i + 1) es wanted (pick (nat_le e wanted) (At i) best)
 
-unfoldable pub landOf : List ℕ → ℕ → Found
-landOf table wanted = landFrom 0 table wanted Unknown
+unfoldable pub land_of : List ℕ → ℕ → Found
+land_of table wanted = land_from 0 table wanted Unknown
 
 -- the addresses of the entries: the base plus each
-unfoldable pub addressesOf : List ℕ → Tables → List ℕ
-addressesOf file t = map (λ e. t.base.0 + e) (table_of file t)
+unfoldable pub addresses_of : List ℕ → Tables → List ℕ
+addresses_of file t = map (λ e. t.base.0 + e) (table_of file t)

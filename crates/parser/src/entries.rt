@@ -1,7 +1,7 @@
 // What an entry of the address table says: its symbol's address, size and name; and the rows of the file table
 // (document 01, "Header and tables" and "Finding the entry").
 ghost use Rattle.std.specs.Prelude.{◌≡◌};
-ghost use Rattle.parser.specs.Entries.{symbol_at, infoIn, infoAt, coveredBy, fileAt};
+ghost use Rattle.parser.specs.Entries.{symbol_at, info_in, info_at, covered_by, file_at};
 
 use super::fixed::{Pair, from_place, pair_at};
 use super::search::{entry_at, table_len};
@@ -30,7 +30,7 @@ pub fn addr_at(file: &[u8], tables: Tables, i: usize) -> Address
 // Size and name at the place that data offset i says, counted from the file's start. Unread where fewer than 8 bytes
 // are there, and where the index is not below the count.
 pub fn addr_info(file: &[u8], tables: Tables, i: usize) -> InfoRead
-    ensures { result ≡ infoAt file.now tables i }
+    ensures { result ≡ info_at file.now tables i }
 {
     let count = tables.count as usize;
     let place = tables.offsets;
@@ -46,7 +46,7 @@ pub fn addr_info(file: &[u8], tables: Tables, i: usize) -> InfoRead
 
 // Size and name at a place, and the place after them.
 fn info_in(file: &[u8], at: usize) -> InfoRead
-    ensures { result ≡ infoIn file.now at }
+    ensures { result ≡ info_in file.now at }
 {
     match pair_at(file, at) {
         Pair::Is { first, second } => {
@@ -64,7 +64,7 @@ fn info_in(file: &[u8], at: usize) -> InfoRead
 // Whether a symbol covers an address: size 0 covers everything from the symbol's address on, another size that many
 // bytes, the end not included. No sum is made, so none wraps.
 pub fn covers(addr: Address, symbol: Address, size: u32) -> bool
-    ensures { result ≡ coveredBy addr symbol size }
+    ensures { result ≡ covered_by addr symbol size }
 {
     if addr.0 < symbol.0 {
         return false;
@@ -78,7 +78,7 @@ pub fn covers(addr: Address, symbol: Address, size: u32) -> bool
 
 // The row of the file table at an index. Unread where the index is not below the file count.
 pub fn file_info(file: &[u8], tables: Tables, index: FileIndex) -> FileRead
-    ensures { result ≡ fileAt file.now tables index }
+    ensures { result ≡ file_at file.now tables index }
 {
     let i = index.0 as usize;
     let rows = tables.file_count as usize;

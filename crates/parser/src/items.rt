@@ -1,7 +1,7 @@
 // One step of the address data list (document 01, "Address data list").
 ghost use Rattle.std.specs.Prelude.{◌≡◌, ◌+◌, ◌≤◌, length};
 ghost use Rattle.reads.specs.Answers.{u32_at};
-ghost use Rattle.parser.specs.Items.{onLen, item_at};
+ghost use Rattle.parser.specs.Items.{on_len, item_at};
 
 use super::Item;
 use reads::Read32;
@@ -26,7 +26,7 @@ pub fn item_at(file: &[u8], at: usize) -> Item
 // The item of a type that `item_at` has read at `at`.
 fn item_of(file: &[u8], at: usize, kind: u32) -> Item
     requires { at + 4 ≤ length file.now }
-    ensures { result ≡ onLen file.now at kind (u32_at file.now (at + 4)) }
+    ensures { result ≡ on_len file.now at kind (u32_at file.now (at + 4)) }
 {
     match reads::u32_at(file, at + 4) {
         Read32::Value(size) => {

@@ -1,8 +1,8 @@
 // The header and where the tables stand (document 01, "Header and tables"), in three stages: magic and version, the
 // header's numbers, the tables.
 ghost use Rattle.std.specs.Prelude.{◌≡◌, ◌≤◌, length};
-ghost use Rattle.reads.specs.Answers.{u16At};
-ghost use Rattle.parser.specs.Header.{numbersOf, tables_of, afterVersion, onVersion, opened_of};
+ghost use Rattle.reads.specs.Answers.{u16_at};
+ghost use Rattle.parser.specs.Header.{numbers_of, tables_of, after_version, on_version, opened_of};
 
 use super::fixed::{num8, num32, num64};
 use super::{Opened, Tables};
@@ -39,7 +39,7 @@ pub fn parse_header(file: &[u8]) -> Opened
 
 // What is left once the magic number is right.
 fn judge_version(file: &[u8]) -> Opened
-    ensures { result ≡ onVersion file.now (u16At file.now 4) }
+    ensures { result ≡ on_version file.now (u16_at file.now 4) }
 {
     match reads::u16_at(file, 4) {
         Read16::Value(version) => {
@@ -55,7 +55,7 @@ fn judge_version(file: &[u8]) -> Opened
 
 // What is left once the version is right.
 fn after_version(file: &[u8]) -> Opened
-    ensures { result ≡ afterVersion file.now }
+    ensures { result ≡ after_version file.now }
 {
     if types::HEADER_LEN <= file.len() {
         let header = header_numbers(file);
@@ -68,7 +68,7 @@ fn after_version(file: &[u8]) -> Opened
 // The numbers of a header that `after_version` has seen to be there.
 fn header_numbers(file: &[u8]) -> Header
     requires { 48 ≤ length file.now }
-    ensures { result ≡ numbersOf file.now }
+    ensures { result ≡ numbers_of file.now }
 {
     let offset_size = num8(file, 6);
     let base = num64(file, 8);

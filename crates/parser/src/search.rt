@@ -2,7 +2,7 @@
 ghost use Rattle.std.specs.Prelude.{◌≡◌, ◌+◌, ◌*◌, ◌^◌, ◌<◌, ◌≤◌, true, length, ◌≢◌, nat_le};
 ghost use Rattle.reads.specs.Pick.{pick};
 ghost use Rattle.parser.specs.Numbers.{num_at};
-ghost use Rattle.parser.specs.Search.{isWidth, len_of, entries, findIn, findOf};
+ghost use Rattle.parser.specs.Search.{is_width, len_of, entries, find_in, find_of};
 
 use super::fixed::{from_place, num8, num16, num32, num64};
 use super::{Found, Tables};
@@ -11,7 +11,7 @@ use types::Address;
 // The entry of the address table that is chosen for an address. Unknown: an address below the base, an offset size
 // other than 1, 2, 4 or 8, no entries, or a first entry above the address minus the base.
 pub fn find_addr(file: &[u8], tables: Tables, addr: Address) -> Found
-    ensures { result ≡ findOf file.now tables addr }
+    ensures { result ≡ find_of file.now tables addr }
 {
     let base = tables.base;
     if addr.0 < base.0 {
@@ -41,7 +41,7 @@ pub(crate) fn table_len(size: u8, count: u32, room: usize) -> usize
 
 // Whether an offset size is 1, 2, 4 or 8.
 fn is_width(size: u8) -> bool
-    ensures { result ≡ isWidth size }
+    ensures { result ≡ is_width size }
 {
     match size {
         1 => true,
@@ -54,7 +54,7 @@ fn is_width(size: u8) -> bool
 
 // Entry i of a table. The callers ask below a length that `table_len` gave.
 pub(crate) fn entry_at(table: &[u8], size: u8, i: usize) -> u64
-    requires { (isWidth size ≡ true) × (i * size + size ≤ length table.now) }
+    requires { (is_width size ≡ true) × (i * size + size ≤ length table.now) }
     ensures { (result ≡ num_at size table.now (i * size)) × ((size ≢ 8) → result < 2 ^ 32) }
 {
     match size {
@@ -67,8 +67,8 @@ pub(crate) fn entry_at(table: &[u8], size: u8, i: usize) -> u64
 
 // The search: the chosen entry is among the `len` from `lo` on. `find_addr` gives a length that `table_len` gave.
 fn halve(table: &[u8], size: u8, n: usize, wanted: u64) -> Found
-    requires { (n * size ≤ length table.now) × (0 < n → isWidth size ≡ true) }
-    ensures { result ≡ findIn (entries size n table.now) wanted }
+    requires { (n * size ≤ length table.now) × (0 < n → is_width size ≡ true) }
+    ensures { result ≡ find_in (entries size n table.now) wanted }
 {
     if n == 0 {
         return Found::Unknown;

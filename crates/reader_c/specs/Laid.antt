@@ -23,31 +23,31 @@ abbrev pub numberless : ℕ → NumberAnswer
 numberless tag = record { value = 0; next = 0; tag = tag }
 
 -- a number, and the place after it
-abbrev pub laidNumber : ℕ → ℕ → NumberAnswer
-laidNumber v n = record { value = v; next = n; tag = 0 }
+abbrev pub laid_number : ℕ → ℕ → NumberAnswer
+laid_number v n = record { value = v; next = n; tag = 0 }
 
 -- the number, or why there is none; a signed one as its 64 bits
-abbrev pub laidUnsigned : Unsigned → NumberAnswer
-laidUnsigned (u.Value v n) = laidNumber v n
-laidUnsigned u.Short = numberless 1
-laidUnsigned u.Wide = numberless 2
+abbrev pub laid_unsigned : Unsigned → NumberAnswer
+laid_unsigned (u.Value v n) = laid_number v n
+laid_unsigned u.Short = numberless 1
+laid_unsigned u.Wide = numberless 2
 
-abbrev pub laidSigned : Signed → NumberAnswer
-laidSigned (z.Value v n) = laidNumber (bits_of v) n
-laidSigned z.Short = numberless 1
-laidSigned z.Wide = numberless 2
+abbrev pub laid_signed : Signed → NumberAnswer
+laid_signed (z.Value v n) = laid_number (bits_of v) n
+laid_signed z.Short = numberless 1
+laid_signed z.Wide = numberless 2
 
 -- an answer without a row
 abbrev pub rowless : ℕ → LineAnswer
 rowless tag = record { addr = 0; file = 0; line = 0; tag = tag }
 
 -- the row, or why there is none
-abbrev pub laidLine : LineRead → LineAnswer
-laidLine (Row r) = record { addr = r.addr.0; file = r.file_idx.0; line = r.file_line.0; tag = 0 }
-laidLine Nothing = rowless 1
-laidLine Short = rowless 2
-laidLine Wide = rowless 3
+abbrev pub laid_line : LineRead → LineAnswer
+laid_line (Row r) = record { addr = r.addr.0; file = r.file_idx.0; line = r.file_line.0; tag = 0 }
+laid_line Nothing = rowless 1
+laid_line Short = rowless 2
+laid_line Wide = rowless 3
 
 -- what a block's answer says
-abbrev pub listedAs : BlockAnswer → Listed
-listedAs r = record { number = r.number; count = r.count }
+abbrev pub listed_as : BlockAnswer → Listed
+listed_as r = record { number = r.number; count = r.count }

@@ -1,11 +1,11 @@
 // Parts of the reader for programs that compare and measure them from C or Rust: each function here only hands its
 // arguments on and lays the answer out as C has it. What a host should call is another crate's business.
 ghost use Rattle.std.specs.Prelude.{◌≡◌};
-ghost use Rattle.leb128.specs.Answers.{unsignedAt, signedAt};
-ghost use Rattle.linetab.specs.Rows.{lineRow};
+ghost use Rattle.leb128.specs.Answers.{unsigned_at, signed_at};
+ghost use Rattle.linetab.specs.Rows.{line_row};
 ghost use Rattle.inline.specs.Block.{Lists};
-ghost use Rattle.reader_c.specs.Laid.{numberless, laidUnsigned, laidSigned};
-ghost use Rattle.reader_c.specs.Laid.{address, rowless, laidLine, listedAs};
+ghost use Rattle.reader_c.specs.Laid.{numberless, laid_unsigned, laid_signed};
+ghost use Rattle.reader_c.specs.Laid.{address, rowless, laid_line, listed_as};
 
 use leb128::{Signed, Unsigned};
 use linetab::LineRead;
@@ -34,7 +34,7 @@ fn without_number(tag: u32) -> NumberAnswer
 // The unsigned number at a place: `leb128::unsigned_at`.
 #[unsafe(no_mangle)]
 pub extern "C" fn gsym_unsigned(bytes: &[u8], at: usize) -> NumberAnswer
-    ensures { result ≡ laidUnsigned (unsignedAt bytes.now at) }
+    ensures { result ≡ laid_unsigned (unsigned_at bytes.now at) }
 {
     match leb128::unsigned_at(bytes, at) {
         Unsigned::Value { value, next } => NumberAnswer {
@@ -50,7 +50,7 @@ pub extern "C" fn gsym_unsigned(bytes: &[u8], at: usize) -> NumberAnswer
 // The signed number at a place: `leb128::signed_at`.
 #[unsafe(no_mangle)]
 pub extern "C" fn gsym_signed(bytes: &[u8], at: usize) -> NumberAnswer
-    ensures { result ≡ laidSigned (signedAt bytes.now at) }
+    ensures { result ≡ laid_signed (signed_at bytes.now at) }
 {
     match leb128::signed_at(bytes, at) {
         Signed::Value { value, next } => {
@@ -89,7 +89,7 @@ fn without_row(tag: u32) -> LineAnswer
 }
 
 fn laid_line(read: LineRead) -> LineAnswer
-    ensures { result ≡ laidLine read }
+    ensures { result ≡ laid_line read }
 {
     match read {
         LineRead::Row(row) => LineAnswer {
@@ -107,7 +107,7 @@ fn laid_line(read: LineRead) -> LineAnswer
 // The row of `addr` in a line table of the symbol at `symbol`: `linetab::line_row`.
 #[unsafe(no_mangle)]
 pub extern "C" fn gsym_line_row(block: &[u8], symbol: u64, addr: u64) -> LineAnswer
-    ensures { result ≡ laidLine (lineRow block.now (address symbol) (address addr)) }
+    ensures { result ≡ laid_line (line_row block.now (address symbol) (address addr)) }
 {
     laid_line(linetab::line_row(block, Address(symbol), Address(addr)))
 }
@@ -123,7 +123,7 @@ pub struct BlockAnswer {
 // The frames of one block at an address, three numbers each, to the front of `store`: `inline::block_in`.
 #[unsafe(no_mangle)]
 pub extern "C" fn gsym_block(block: &[u8], symbol: u64, addr: u64, store: &mut [u32]) -> BlockAnswer
-    ensures { Lists block.now symbol addr store.old store.new (listedAs result) }
+    ensures { Lists block.now symbol addr store.old store.new (listed_as result) }
 {
     let l = inline::block_in(block, Address(symbol), Address(addr), store);
     BlockAnswer {

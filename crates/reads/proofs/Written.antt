@@ -7,7 +7,7 @@ use lib.ListN.{length, take, drop, length-append, length-drop}
 use lib.Seq.{drop-append_seam, take-append_seam}
 use native.Mathlib.Nat.{pow-suc, div-lt_iff_lt-mul}
 use native.Mathlib.Omega.{arith}
-use Rattle.reads.specs.Bytes.{value, le, leAt, le_of}
+use Rattle.reads.specs.Bytes.{value, le, le_at, le_of}
 use Rattle.reads.proofs.Places.{there}
 
 pub length-leOf : (width v : ℕ) → length (le_of width v) ≡ width
@@ -28,7 +28,7 @@ le-leOf (suc width) v h =
 
 -- written between any bytes, and read at the place where it was written
 pub read-written : (before after : List ℕ) (width v : ℕ) → v < 256 ^ width
-    → leAt width (before ++ (le_of width v ++ after)) (length before) ≡ value v
+    → le_at width (before ++ (le_of width v ++ after)) (length before) ≡ value v
 read-written before after width v h =
     let l : length (before ++ (le_of width v ++ after)) ≡ length before + (width + length after) =
     simp (length-append, length-leOf) in

@@ -1,7 +1,7 @@
 -- What each reader answers: the number at a place, at the width of its type.
 -- Assumes nothing.
 use Rattle.std.specs.Prelude.{ℕ, List}
-use Rattle.reads.specs.Bytes.{Fixed, value, unread, leAt}
+use Rattle.reads.specs.Bytes.{Fixed, value, unread, le_at}
 use Rattle.reads.specs.declared.Read8.{Read8}
 use Rattle.reads.specs.declared.Read8.TheVariants as V8
 use Rattle.reads.specs.declared.Read16.{Read16}
@@ -28,13 +28,13 @@ as64 (value v) = V64.Value v
 as64 unread = V64.Unread
 
 unfoldable pub u8_at : List ℕ → ℕ → Read8
-u8_at s at = as8 (leAt 1 s at)
+u8_at s at = as8 (le_at 1 s at)
 
-unfoldable pub u16At : List ℕ → ℕ → Read16
-u16At s at = as16 (leAt 2 s at)
+unfoldable pub u16_at : List ℕ → ℕ → Read16
+u16_at s at = as16 (le_at 2 s at)
 
 unfoldable pub u32_at : List ℕ → ℕ → Read32
-u32_at s at = as32 (leAt 4 s at)
+u32_at s at = as32 (le_at 4 s at)
 
-unfoldable pub u64At : List ℕ → ℕ → Read64
-u64At s at = as64 (leAt 8 s at)
+unfoldable pub u64_at : List ℕ → ℕ → Read64
+u64_at s at = as64 (le_at 8 s at)

@@ -17,12 +17,12 @@ le [] = 0
 le (b ∷ bs) = b + 256 * le bs
 
 -- the number in the first bytes of a list; where there are fewer it doesn't read
-unfoldable pub leIn : ℕ → List ℕ → Fixed
-leIn width bs = pick (leb width (length bs)) (value (le (take width bs))) unread
+unfoldable pub le_in : ℕ → List ℕ → Fixed
+le_in width bs = pick (leb width (length bs)) (value (le (take width bs))) unread
 
 -- the number at a place of a list
-abbrev pub leAt : ℕ → List ℕ → ℕ → Fixed
-leAt width s at = leIn width (drop at s)
+abbrev pub le_at : ℕ → List ℕ → ℕ → Fixed
+le_at width s at = le_in width (drop at s)
 
 -- the bytes that say a number, modulo 256 ^ width
 unfoldable pub le_of : ℕ → ℕ → List ℕ

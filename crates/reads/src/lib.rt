@@ -4,7 +4,7 @@
 
 ghost use Rattle.std.specs.Prelude.{◌≡◌, ◌+◌, ◌-◌, ◌^◌, ◌<◌, ◌≤◌, length, take, drop};
 ghost use Rattle.reads.specs.Bytes.{le};
-ghost use Rattle.reads.specs.Answers.{u8_at, u16At, u32_at, u64At};
+ghost use Rattle.reads.specs.Answers.{u8_at, u16_at, u32_at, u64_at};
 
 #[derive(Clone, Copy)]
 pub enum Read8 {
@@ -51,7 +51,7 @@ pub fn u8_at(s: &[u8], at: usize) -> Read8
 
 // The number of two bytes at `at`.
 pub fn u16_at(s: &[u8], at: usize) -> Read16
-    ensures { result ≡ u16At s.now at }
+    ensures { result ≡ u16_at s.now at }
 {
     let left = left_at(s, at);
     if 2 <= left {
@@ -75,7 +75,7 @@ pub fn u32_at(s: &[u8], at: usize) -> Read32
 
 // The number of eight bytes at `at`.
 pub fn u64_at(s: &[u8], at: usize) -> Read64
-    ensures { result ≡ u64At s.now at }
+    ensures { result ≡ u64_at s.now at }
 {
     let left = left_at(s, at);
     if 8 <= left {

@@ -16,17 +16,17 @@ use Rattle.linetab.specs.declared.RowFound.{RowFound}
 use Rattle.linetab.specs.declared.RowFound.TheVariants as found
 use Rattle.linetab.specs.declared.LineRead.{LineRead}
 use Rattle.linetab.specs.declared.LineRead.TheVariants as line
-use Rattle.linetab.specs.Rows.{lineRow}
+use Rattle.linetab.specs.Rows.{line_row}
 use Rattle.resolver.specs.declared.landing.Landing.{Landing}
 use Rattle.resolver.specs.declared.landing.Landing.TheVariants as land
 use Rattle.resolver.specs.Data.{Data, Piece}
-use Rattle.resolver.specs.Book.{Book, bookOf}
-use Rattle.resolver.specs.Heard.{ask, Heard, afterLine, hearRow, hearFrames, hear}
-use Rattle.resolver.specs.Says.{SiteRead, is, no, siteOf, withFrames, afterHeard, sayMore}
+use Rattle.resolver.specs.Book.{Book, book_of}
+use Rattle.resolver.specs.Heard.{ask, Heard, after_line, hear_row, hear_frames, hear}
+use Rattle.resolver.specs.Says.{SiteRead, is, no, site_of, with_frames, after_heard, say_more}
 use Rattle.resolver.specs.Spell.{Looked, spell}
-use Rattle.resolver.specs.Lookup.{lookupOf}
-use Rattle.resolver.specs.Stages.{landingOf, plainOptions, allOptions}
-use Rattle.resolver.specs.Rows.{recordsIn, flatFrames, Wrote, Looks}
+use Rattle.resolver.specs.Lookup.{lookup_of}
+use Rattle.resolver.specs.Stages.{landing_of, plain_options, all_options}
+use Rattle.resolver.specs.Rows.{records_in, flat_frames, Wrote, Looks}
 use Rattle.resolver.proofs.Books.{never}
 use Rattle.resolver.proofs.Rowing.{Quiet, a-row, unread, quiet}
 use Rattle.resolver.proofs.Landings.{landed, not-landed}
@@ -39,8 +39,8 @@ not-both b c f t = let z : false ≡ true = sym f ∙ t in let y : ◌≡◌ {A 
 
 module _ (symbol addr : Address) (room : ℕ) where
   passed :
-      (k : ℕ) (p : Piece) (go : List InlineFrame → Heard) → hearFrames (ask symbol addr k false) p go [] ≡ go []
-  unfolding hearFrames
+      (k : ℕ) (p : Piece) (go : List InlineFrame → Heard) → hear_frames (ask symbol addr k false) p go [] ≡ go []
+  unfolding hear_frames
   passed k p go = tested (eqb p.kind 2)
     where
       tested : (b : Bool) → pick b (go []) (go []) ≡ go []
@@ -49,13 +49,13 @@ module _ (symbol addr : Address) (room : ℕ) where
 
   rows_agree :
       (p : Piece) (go to : RowFound → Heard) → ((r : RowFound) → go r ≡ to r) → (r : RowFound) →
-      hearRow (ask symbol addr room false) p go r ≡ hearRow (ask symbol addr 0 false) p to r
-  unfolding hearRow
+      hear_row (ask symbol addr room false) p go r ≡ hear_row (ask symbol addr 0 false) p to r
+  unfolding hear_row
   rows_agree p go to h (found.Row r) = h (found.Row r)
-  rows_agree p go to h found.Nothing = tested (eqb p.kind 1) (lineRow p.bytes symbol addr)
+  rows_agree p go to h found.Nothing = tested (eqb p.kind 1) (line_row p.bytes symbol addr)
     where
       tested : (b : Bool) (l : LineRead) →
-          pick b (afterLine go l) (go found.Nothing) ≡ pick b (afterLine to l) (to found.Nothing)
+          pick b (after_line go l) (go found.Nothing) ≡ pick b (after_line to l) (to found.Nothing)
       tested false l = h found.Nothing
       tested true (line.Row r) = h (found.Row r)
       tested true line.Nothing = h found.Nothing
@@ -68,35 +68,35 @@ module _ (symbol addr : Address) (room : ℕ) where
   still [] r = refl
   still (p ∷ ps) r =
       rows_agree p
-      (λ s. hearFrames (ask symbol addr room false) p (λ fs. hear (ask symbol addr room false) ps s fs) [])
-      (λ s. hearFrames (ask symbol addr 0 false) p (λ fs. hear (ask symbol addr 0 false) ps s fs) [])
+      (λ s. hear_frames (ask symbol addr room false) p (λ fs. hear (ask symbol addr room false) ps s fs) [])
+      (λ s. hear_frames (ask symbol addr 0 false) p (λ fs. hear (ask symbol addr 0 false) ps s fs) [])
       (λ s.
       passed room p (λ fs. hear (ask symbol addr room false) ps s fs) ∙ still ps s
       ∙ sym (passed 0 p (λ fs. hear (ask symbol addr 0 false) ps s fs))) r
 
   say-still :
       (b : Book) (d : Data) (inlining code : Bool) → (code ≡ true → inlining ≡ false) →
-      sayMore b d (ask symbol addr room inlining) code ≡ sayMore b d (ask symbol addr 0 false) code
-  unfolding sayMore
+      say_more b d (ask symbol addr room inlining) code ≡ say_more b d (ask symbol addr 0 false) code
+  unfolding say_more
   say-still b d inlining false h = refl
-  say-still b d inlining true h = rw (h refl) (ap (afterHeard b d) (still d.items found.Nothing))
+  say-still b d inlining true h = rw (h refl) (ap (after_heard b d) (still d.items found.Nothing))
 
 pub plain-same :
     (file : List ℕ) (addr : Address) (o : Options) (room : ℕ) → (o.code_info ≡ true → o.inlining ≡ false) →
-    lookupOf file addr o room ≡ lookupOf file addr (plainOptions o.code_info) 0
-plain-same file addr o room h = go (landingOf file addr) refl
+    lookup_of file addr o room ≡ lookup_of file addr (plain_options o.code_info) 0
+plain-same file addr o room h = go (landing_of file addr) refl
   where
     go :
-        (x : Landing) → landingOf file addr ≡ x →
-        lookupOf file addr o room ≡ lookupOf file addr (plainOptions o.code_info) 0
+        (x : Landing) → landing_of file addr ≡ x →
+        lookup_of file addr o room ≡ lookup_of file addr (plain_options o.code_info) 0
     go (land.On t e) u =
         let l = landed file addr t e u in
         l.says o room
-        ∙ ap (spell (bookOf file t) t.strings.place e.symbol)
-        (say-still e.symbol addr room (bookOf file t) l.said o.inlining o.code_info h)
-        ∙ sym (l.says (plainOptions o.code_info) 0)
+        ∙ ap (spell (book_of file t) t.strings.place e.symbol)
+        (say-still e.symbol addr room (book_of file t) l.said o.inlining o.code_info h)
+        ∙ sym (l.says (plain_options o.code_info) 0)
     go (land.Refused n) u =
-        not-landed file addr n u o room ∙ sym (not-landed file addr n u (plainOptions o.code_info) 0)
+        not-landed file addr n u o room ∙ sym (not-landed file addr n u (plain_options o.code_info) 0)
 
 -- ---- and no records are written
 
@@ -105,42 +105,42 @@ pub record None (l : Looked) : Type 0 where
   pub frames : l.frames ≡ []
 
 module _ (b : Book) (place : ℕ) (symbol : Address) (d : Data) where
-  site-none : (s : SiteRead) → None (spell b place symbol (withFrames b d [] s))
-  unfolding spell withFrames
+  site-none : (s : SiteRead) → None (spell b place symbol (with_frames b d [] s))
+  unfolding spell with_frames
   site-none (is row) = record { count = refl; frames = refl }
   site-none (no n) = record { count = refl; frames = refl }
 
-  heard-none : (addr : Address) (h : Heard) → Quiet symbol addr h → None (spell b place symbol (afterHeard b d h))
-  unfolding spell afterHeard
-  heard-none addr h (a-row (found.Row r)) = site-none (siteOf b r.file_idx.0 r.file_line.0)
+  heard-none : (addr : Address) (h : Heard) → Quiet symbol addr h → None (spell b place symbol (after_heard b d h))
+  unfolding spell after_heard
+  heard-none addr h (a-row (found.Row r)) = site-none (site_of b r.file_idx.0 r.file_line.0)
   heard-none addr h (a-row found.Nothing) = record { count = refl; frames = refl }
   heard-none addr h unread = record { count = refl; frames = refl }
 
-  more-none : (addr : Address) (code : Bool) → None (spell b place symbol (sayMore b d (ask symbol addr 0 false) code))
-  unfolding spell sayMore
+  more-none : (addr : Address) (code : Bool) → None (spell b place symbol (say_more b d (ask symbol addr 0 false) code))
+  unfolding spell say_more
   more-none addr true = heard-none addr _ (quiet symbol addr d.items)
   more-none addr false = record { count = refl; frames = refl }
 
-plain-none : (file : List ℕ) (addr : Address) (code : Bool) → None (lookupOf file addr (plainOptions code) 0)
-plain-none file addr code = go (landingOf file addr) refl
+plain-none : (file : List ℕ) (addr : Address) (code : Bool) → None (lookup_of file addr (plain_options code) 0)
+plain-none file addr code = go (landing_of file addr) refl
   where
-    go : (x : Landing) → landingOf file addr ≡ x → None (lookupOf file addr (plainOptions code) 0)
+    go : (x : Landing) → landing_of file addr ≡ x → None (lookup_of file addr (plain_options code) 0)
     go (land.On t e) u =
         let l = landed file addr t e u in
-        rw (l.says (plainOptions code) 0)
-        (more-none (bookOf file t) t.strings.place e.symbol l.said addr code)
+        rw (l.says (plain_options code) 0)
+        (more-none (book_of file t) t.strings.place e.symbol l.said addr code)
     go (land.Refused n) u =
-        rw (not-landed file addr n u (plainOptions code) 0) (record { count = refl; frames = refl })
+        rw (not-landed file addr n u (plain_options code) 0) (record { count = refl; frames = refl })
 
 -- ---- `lookup_in`
 
 module _ (file : List ℕ) (addr : Address) (o : Options) (entry : List ℕ) where
   pub looks-plain :
       (o.code_info ≡ true → o.inlining ≡ false) → (r : Answer) →
-      r ≡ (lookupOf file addr (plainOptions o.code_info) 0).answer → Looks file addr o entry entry r
-  unfolding flatFrames
+      r ≡ (lookup_of file addr (plain_options o.code_info) 0).answer → Looks file addr o entry entry r
+  unfolding flat_frames
   looks-plain h r q =
-      let s = plain-same file addr o (recordsIn entry) h in
+      let s = plain-same file addr o (records_in entry) h in
       let z = plain-none file addr o.code_info in
       record {
         says = q ∙ sym (ap (λ (l : Looked). l.answer) s);
@@ -151,9 +151,9 @@ module _ (file : List ℕ) (addr : Address) (o : Options) (entry : List ℕ) whe
 
   pub looks-framed :
       o.code_info ≡ true → o.inlining ≡ true → (exit : List ℕ) (r : Answer) →
-      Wrote (lookupOf file addr allOptions (recordsIn entry)) entry exit r → Looks file addr o entry exit r
+      Wrote (lookup_of file addr all_options (records_in entry)) entry exit r → Looks file addr o entry exit r
   looks-framed c i exit r w =
-      let s : o ≡ allOptions =
+      let s : o ≡ all_options =
       ap (λ (b : Bool). record { code_info = b; inlining = o.inlining }) c
       ∙ ap (λ (b : Bool). record { code_info = true; inlining = b }) i in
       record {

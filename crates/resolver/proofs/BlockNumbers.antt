@@ -12,11 +12,11 @@ use Rattle.linetab.specs.declared.RowFound.TheVariants as found
 use Rattle.inline.specs.Block.{refused}
 use Rattle.parser.specs.Entries.{symbol_at}
 use Rattle.resolver.specs.Data.{Data}
-use Rattle.resolver.specs.Book.{Book, bookOf}
+use Rattle.resolver.specs.Book.{Book, book_of}
 use Rattle.resolver.specs.Heard.{ask}
-use Rattle.resolver.specs.Lookup.{lookupOf}
+use Rattle.resolver.specs.Lookup.{lookup_of}
 use Rattle.resolver.proofs.Causes.{unplaced-site, site-no, uncalled-calls, calls-no}
-use Rattle.resolver.proofs.Heards.{unread, rowsAlone}
+use Rattle.resolver.proofs.Heards.{unread, rows_alone}
 use Rattle.resolver.proofs.FirstBlocks.{Deciding, heard-fault}
 use Rattle.resolver.proofs.Refusals.{Asked, Unsaid, uncovered, unnamed, unheard, unplaced, first-unnamed}
 use Rattle.resolver.proofs.Refusals.{uncalled}
@@ -36,7 +36,7 @@ unsaid-block b symbol d addr o room n l (unnamed c m e) = absurd (omega arith)
 unsaid-block b symbol d addr o room n l (unheard A h) =
     let q = ask symbol addr room o.inlining in
     ⊎_elim
-    (λ (k : (n ≡ 9) × (rowsAlone q d.items found.Nothing ≡ unread)). absurd (omega (arith, k.0)))
+    (λ (k : (n ≡ 9) × (rows_alone q d.items found.Nothing ≡ unread)). absurd (omega (arith, k.0)))
     (λ (D : Deciding q d.items (refused n)). (A, D))
     (heard-fault q d.items found.Nothing n h)
 unsaid-block b symbol d addr o room n l (unplaced r fs A h u) =
@@ -46,18 +46,18 @@ unsaid-block b symbol d addr o room n l (uncalled r f fs s A h p m u) =
     let k = calls-no b fs n (uncalled-calls b fs n u) in absurd (omega (arith, k.1))
 
 pub number-block : (file : List ℕ) (addr : Address) (o : Options) (room n : ℕ) → 10 ≤ n →
-    (lookupOf file addr o room).answer.number ≡ n →
+    (lookup_of file addr o room).answer.number ≡ n →
     (E : Entered file addr)
-    × BlockRefused (bookOf file E.tables) (symbol_at file E.tables E.index) E.data-of addr o room n
+    × BlockRefused (book_of file E.tables) (symbol_at file E.tables E.index) E.data-of addr o room n
 number-block file addr o room n l p = go (lookup-met file addr o room n p (omega arith))
   where
     go : Met file addr o room n →
         (E : Entered file addr)
-        × BlockRefused (bookOf file E.tables) (symbol_at file E.tables E.index) E.data-of addr o room n
+        × BlockRefused (book_of file E.tables) (symbol_at file E.tables E.index) E.data-of addr o room n
     go (unopened e) = let k = opened-no file n e in absurd (omega (arith, k.1))
     go (nowhere t e w q) = absurd (omega arith)
     go (no-data t i e f k q) = absurd (omega arith)
     go (unsaid t i d e f k u) = (
       record { tables = t; index = i; data-of = d; opens = e; finds = f; reads = k },
-      unsaid-block (bookOf file t) (symbol_at file t i) d addr o room n l u,
+      unsaid-block (book_of file t) (symbol_at file t i) d addr o room n l u,
     )

@@ -17,17 +17,17 @@ use Rattle.types.specs.declared.Text.{Text}
 use Rattle.strtab.specs.declared.Len.{Len}
 use Rattle.strtab.specs.declared.Len.TheVariants.{Spans, Nothing}
 use Rattle.strtab.specs.declared.TextRead.TheVariants as text
-use Rattle.strtab.specs.Strings.{textIn, nameIn, placed, textAt, name_at}
+use Rattle.strtab.specs.Strings.{text_in, name_in, placed, text_at, name_at}
 use Rattle.strtab.proofs.Texts.{text_in-table, name-in-table, name-in-is}
 use Rattle.parser.specs.declared.Tables.{Tables}
 use Rattle.parser.specs.declared.FileRead.TheVariants as row
 use Rattle.parser.specs.Numbers.{num_at}
 use Rattle.parser.specs.Header.{Within}
-use Rattle.parser.specs.Entries.{fileAt}
+use Rattle.parser.specs.Entries.{file_at}
 use Rattle.parser.proofs.Places.{file-reads}
 use Rattle.parser.proofs.Said.{file-none}
-use Rattle.resolver.specs.Book.{Book, fileRow, filesIn, bookOf, nthFile, there, readsText, readsName}
-use Rattle.resolver.specs.Spell.{spellText, text as spelt}
+use Rattle.resolver.specs.Book.{Book, file_row, files_in, book_of, nth_file, there, reads_text, reads_name}
+use Rattle.resolver.specs.Spell.{spell_text, text as spelt}
 
 -- what is impossible proves anything
 pub never : {A : Type 0} → ◌≡◌ {A = ℕ} 0 1 → A
@@ -41,8 +41,8 @@ num-drop width at by s = rw drop-drop
 
 nth-there :
     (n i : ℕ) (bytes : List ℕ) → i < n →
-    nthFile (filesIn n bytes) i ≡ row.Is (fileRow (num_at 4 bytes (i * 8)) (num_at 4 bytes (i * 8 + 4)))
-unfolding nthFile filesIn
+    nth_file (files_in n bytes) i ≡ row.Is (file_row (num_at 4 bytes (i * 8)) (num_at 4 bytes (i * 8 + 4)))
+unfolding nth_file files_in
 nth-there zero i bytes h = absurd (omega arith)
 nth-there (suc n) zero bytes h = refl
 nth-there (suc n) (suc i) bytes h =
@@ -50,11 +50,11 @@ nth-there (suc n) (suc i) bytes h =
     num-drop 4 (i * 8) 8 bytes ∙ ap (num_at 4 bytes) (omega arith) in
     let q : num_at 4 (drop 8 bytes) (i * 8 + 4) ≡ num_at 4 bytes (suc i * 8 + 4) =
     num-drop 4 (i * 8 + 4) 8 bytes ∙ ap (num_at 4 bytes) (omega arith) in
-    nth-there n i (drop 8 bytes) (omega arith) ∙ ap (λ x. row.Is (fileRow x (num_at 4 (drop 8 bytes) (i * 8 + 4)))) p
-    ∙ ap (λ x. row.Is (fileRow (num_at 4 bytes (suc i * 8)) x)) q
+    nth-there n i (drop 8 bytes) (omega arith) ∙ ap (λ x. row.Is (file_row x (num_at 4 (drop 8 bytes) (i * 8 + 4)))) p
+    ∙ ap (λ x. row.Is (file_row (num_at 4 bytes (suc i * 8)) x)) q
 
-nth-none : (n i : ℕ) (bytes : List ℕ) → n ≤ i → nthFile (filesIn n bytes) i ≡ row.Unread
-unfolding nthFile filesIn
+nth-none : (n i : ℕ) (bytes : List ℕ) → n ≤ i → nth_file (files_in n bytes) i ≡ row.Unread
+unfolding nth_file files_in
 nth-none zero i bytes h = refl
 nth-none (suc n) zero bytes h = absurd (omega arith)
 nth-none (suc n) (suc i) bytes h = nth-none n i (drop 8 bytes) (omega arith)
@@ -63,10 +63,10 @@ nth-none (suc n) (suc i) bytes h = nth-none n i (drop 8 bytes) (omega arith)
 
 module _ (b : Book) (place offset : ℕ) where
   -- a string of the table's bytes, as an answer
-  text-by : placed (place + offset) (textIn b.strings offset)
-      ≡ pick (readsText b offset) (text.Is (spellText b place offset)) text.Unread
-  unfolding readsText spellText
-  text-by = go (textIn b.strings offset)
+  text-by : placed (place + offset) (text_in b.strings offset)
+      ≡ pick (reads_text b offset) (text.Is (spell_text b place offset)) text.Unread
+  unfolding reads_text spell_text
+  text-by = go (text_in b.strings offset)
     where
       go : (l : Len) → placed (place + offset) l
           ≡ pick (there l) (text.Is (spelt (place + offset) l)) text.Unread
@@ -74,13 +74,13 @@ module _ (b : Book) (place offset : ℕ) where
       go Nothing = refl
 
   -- a name is the string of its length
-  name_by : placed (place + offset) (nameIn b.strings offset)
-      ≡ pick (readsName b offset) (text.Is (spellText b place offset)) text.Unread
-  unfolding readsName spellText
-  name_by = go (nameIn b.strings offset) refl
+  name_by : placed (place + offset) (name_in b.strings offset)
+      ≡ pick (reads_name b offset) (text.Is (spell_text b place offset)) text.Unread
+  unfolding reads_name spell_text
+  name_by = go (name_in b.strings offset) refl
     where
-      go : (l : Len) → nameIn b.strings offset ≡ l → placed (place + offset) l
-          ≡ pick (there l) (text.Is (spelt (place + offset) (textIn b.strings offset))) text.Unread
+      go : (l : Len) → name_in b.strings offset ≡ l → placed (place + offset) l
+          ≡ pick (there l) (text.Is (spelt (place + offset) (text_in b.strings offset))) text.Unread
       go (Spans n) e = rw (name-in-is b.strings offset n e).0
       go Nothing e = refl
 
@@ -96,8 +96,8 @@ not-picked false x e = refl
 -- ---- in an opened file
 
 module _ (file : List ℕ) (t : Tables) (w : Within file t) where
-  pub file-in-book : (index : FileIndex) → fileAt file t index ≡ nthFile (bookOf file t).files index.0
-  unfolding bookOf
+  pub file-in-book : (index : FileIndex) → file_at file t index ≡ nth_file (book_of file t).files index.0
+  unfolding book_of
   file-in-book index =
       ⊎_elim
       (λ (l : index.0 < t.file_count).
@@ -108,38 +108,38 @@ module _ (file : List ℕ) (t : Tables) (w : Within file t) where
 
   module _ (offset : StrOffset) where
     pub text_in-book :
-        textAt file t.strings offset
-        ≡ pick (readsText (bookOf file t) offset.0)
-        (text.Is (spellText (bookOf file t) t.strings.place offset.0))
+        text_at file t.strings offset
+        ≡ pick (reads_text (book_of file t) offset.0)
+        (text.Is (spell_text (book_of file t) t.strings.place offset.0))
         text.Unread
-    unfolding bookOf
+    unfolding book_of
     text_in-book =
         text_in-table file t.strings offset w.strings-end
-        ∙ text-by (bookOf file t) t.strings.place offset.0
+        ∙ text-by (book_of file t) t.strings.place offset.0
 
     pub name-in-book :
         name_at file t.strings offset
-        ≡ pick (readsName (bookOf file t) offset.0)
-        (text.Is (spellText (bookOf file t) t.strings.place offset.0))
+        ≡ pick (reads_name (book_of file t) offset.0)
+        (text.Is (spell_text (book_of file t) t.strings.place offset.0))
         text.Unread
-    unfolding bookOf
+    unfolding book_of
     name-in-book =
         name-in-table file t.strings offset w.strings-end
-        ∙ name_by (bookOf file t) t.strings.place offset.0
+        ∙ name_by (book_of file t) t.strings.place offset.0
 
     -- a string that reads in the file reads in the book, and is spelt there
     pub text-is :
-        (x : Text) → textAt file t.strings offset ≡ text.Is x →
-        (readsText (bookOf file t) offset.0 ≡ true) × (x ≡ spellText (bookOf file t) t.strings.place offset.0)
-    text-is x e = picked (readsText (bookOf file t) offset.0) _ x (sym text_in-book ∙ e)
+        (x : Text) → text_at file t.strings offset ≡ text.Is x →
+        (reads_text (book_of file t) offset.0 ≡ true) × (x ≡ spell_text (book_of file t) t.strings.place offset.0)
+    text-is x e = picked (reads_text (book_of file t) offset.0) _ x (sym text_in-book ∙ e)
 
-    pub text-unread : textAt file t.strings offset ≡ text.Unread → readsText (bookOf file t) offset.0 ≡ false
-    text-unread e = not-picked (readsText (bookOf file t) offset.0) _ (sym text_in-book ∙ e)
+    pub text-unread : text_at file t.strings offset ≡ text.Unread → reads_text (book_of file t) offset.0 ≡ false
+    text-unread e = not-picked (reads_text (book_of file t) offset.0) _ (sym text_in-book ∙ e)
 
     pub name-is :
         (x : Text) → name_at file t.strings offset ≡ text.Is x →
-        (readsName (bookOf file t) offset.0 ≡ true) × (x ≡ spellText (bookOf file t) t.strings.place offset.0)
-    name-is x e = picked (readsName (bookOf file t) offset.0) _ x (sym name-in-book ∙ e)
+        (reads_name (book_of file t) offset.0 ≡ true) × (x ≡ spell_text (book_of file t) t.strings.place offset.0)
+    name-is x e = picked (reads_name (book_of file t) offset.0) _ x (sym name-in-book ∙ e)
 
-    pub name-unread : name_at file t.strings offset ≡ text.Unread → readsName (bookOf file t) offset.0 ≡ false
-    name-unread e = not-picked (readsName (bookOf file t) offset.0) _ (sym name-in-book ∙ e)
+    pub name-unread : name_at file t.strings offset ≡ text.Unread → reads_name (book_of file t) offset.0 ≡ false
+    name-unread e = not-picked (reads_name (book_of file t) offset.0) _ (sym name-in-book ∙ e)

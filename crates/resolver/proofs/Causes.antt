@@ -12,20 +12,20 @@ use Rattle.parser.specs.declared.FileInfo.{FileInfo}
 use Rattle.parser.specs.declared.FileRead.{FileRead}
 use Rattle.parser.specs.declared.FileRead.TheVariants as row
 use Rattle.inline.proofs.Numbers.{never}
-use Rattle.resolver.specs.Book.{Book, nthFile, readsText, readsName}
-use Rattle.resolver.specs.Says.{Site, SiteRead, is, no, site, siteIn, siteOf}
-use Rattle.resolver.specs.Says.{Call, Calls, calls, andCall, calls_of}
+use Rattle.resolver.specs.Book.{Book, nth_file, reads_text, reads_name}
+use Rattle.resolver.specs.Says.{Site, SiteRead, is, no, site, site_in, site_of}
+use Rattle.resolver.specs.Says.{Call, Calls, calls, and_call, calls_of}
 
 -- ---- the file table
 
-pub file-past : (rs : List FileInfo) (i : ℕ) → length rs ≤ i → nthFile rs i ≡ row.Unread
-unfolding nthFile
+pub file-past : (rs : List FileInfo) (i : ℕ) → length rs ≤ i → nth_file rs i ≡ row.Unread
+unfolding nth_file
 file-past [] i l = refl
 file-past (r ∷ rs) zero l = absurd (omega arith)
 file-past (r ∷ rs) (suc i) l = file-past rs i (omega arith)
 
-pub past-file : (rs : List FileInfo) (i : ℕ) → nthFile rs i ≡ row.Unread → length rs ≤ i
-unfolding nthFile
+pub past-file : (rs : List FileInfo) (i : ℕ) → nth_file rs i ≡ row.Unread → length rs ≤ i
+unfolding nth_file
 past-file [] i e = omega arith
 past-file (r ∷ rs) zero e = never (let z : ◌≡◌ {A = ℕ} 0 1 = cc in z)
 past-file (r ∷ rs) (suc i) e = let l = past-file rs i e in omega arith
@@ -35,20 +35,20 @@ past-file (r ∷ rs) (suc i) e = let l = past-file rs i e in omega arith
 -- why a position doesn't read: 7 for the index, 8 for the directory, then 8 for the file
 pub data Unplaced (b : Book) (index n : ℕ) : Type 0 where
   no_row : length b.files ≤ index → n ≡ 7 → Unplaced b index n
-  no-dir : (r : FileInfo) → nthFile b.files index ≡ row.Is r → readsText b r.directory.0 ≡ false → n ≡ 8 →
+  no-dir : (r : FileInfo) → nth_file b.files index ≡ row.Is r → reads_text b r.directory.0 ≡ false → n ≡ 8 →
       Unplaced b index n
-  no-file : (r : FileInfo) → nthFile b.files index ≡ row.Is r → readsText b r.directory.0 ≡ true →
-      readsText b r.filename.0 ≡ false → n ≡ 8 → Unplaced b index n
+  no-file : (r : FileInfo) → nth_file b.files index ≡ row.Is r → reads_text b r.directory.0 ≡ true →
+      reads_text b r.filename.0 ≡ false → n ≡ 8 → Unplaced b index n
 
 module _ (b : Book) (index line n : ℕ) where
-  pub site-unplaced : siteOf b index line ≡ no n → Unplaced b index n
-  unfolding siteOf siteIn
-  site-unplaced e = go (nthFile b.files index) refl e
+  pub site-unplaced : site_of b index line ≡ no n → Unplaced b index n
+  unfolding site_of site_in
+  site-unplaced e = go (nth_file b.files index) refl e
     where
-      go : (r : FileRead) → nthFile b.files index ≡ r → siteIn b line r ≡ no n → Unplaced b index n
-      go (row.Is r) q f = dir (readsText b r.directory.0) refl (readsText b r.filename.0) refl f
+      go : (r : FileRead) → nth_file b.files index ≡ r → site_in b line r ≡ no n → Unplaced b index n
+      go (row.Is r) q f = dir (reads_text b r.directory.0) refl (reads_text b r.filename.0) refl f
         where
-          dir : (t : Bool) → readsText b r.directory.0 ≡ t → (u : Bool) → readsText b r.filename.0 ≡ u →
+          dir : (t : Bool) → reads_text b r.directory.0 ≡ t → (u : Bool) → reads_text b r.filename.0 ≡ u →
               pick t (pick u (is (site r.directory.0 r.filename.0 line)) (no 8)) (no 8)
               ≡ no n →
               Unplaced b index n
@@ -57,13 +57,13 @@ module _ (b : Book) (index line n : ℕ) where
           dir false p u o f = no-dir r q p cc
       go row.Unread q f = no_row (past-file b.files index q) cc
 
-  pub unplaced-site : Unplaced b index n → siteOf b index line ≡ no n
-  unfolding siteOf siteIn
+  pub unplaced-site : Unplaced b index n → site_of b index line ≡ no n
+  unfolding site_of site_in
   unplaced-site (no_row l e) = rw (file-past b.files index l, e)
   unplaced-site (no-dir r q d e) = rw (q, d, e)
   unplaced-site (no-file r q d f e) = rw (q, d, f, e)
 
-  pub site-no : siteOf b index line ≡ no n → (7 ≤ n) × (n ≤ 8)
+  pub site-no : site_of b index line ≡ no n → (7 ≤ n) × (n ≤ 8)
   site-no e = go (site-unplaced e)
     where
       go : Unplaced b index n → (7 ≤ n) × (n ≤ 8)
@@ -75,8 +75,8 @@ module _ (b : Book) (index line n : ℕ) where
 
 -- why a later frame doesn't read: 6 for its name, then 7, 8, 8 for its call site
 pub data Uncalled (b : Book) (f : InlineFrame) (n : ℕ) : Type 0 where
-  no_name : readsName b f.name.0 ≡ false → n ≡ 6 → Uncalled b f n
-  no-site : readsName b f.name.0 ≡ true → Unplaced b f.call_file.0 n → Uncalled b f n
+  no_name : reads_name b f.name.0 ≡ false → n ≡ 6 → Uncalled b f n
+  no-site : reads_name b f.name.0 ≡ true → Unplaced b f.call_file.0 n → Uncalled b f n
 
 -- the first of the later frames that doesn't read
 pub record FirstUncalled (b : Book) (fs : List InlineFrame) (n : ℕ) : Type 0 where
@@ -91,9 +91,9 @@ abbrev call : ℕ → Site → Call
 call name s = record { name = name; site = s }
 
 -- the part that refuses
-abbrev callsNo : Calls → ℕ
-callsNo (calls cs) = 0
-callsNo (no n) = n
+abbrev calls_no : Calls → ℕ
+calls_no (calls cs) = 0
+calls_no (no n) = n
 
 module _ (b : Book) where
   none : calls_of b [] ≡ calls []
@@ -101,24 +101,24 @@ module _ (b : Book) where
   none = refl
 
   -- a frame that reads, before others
-  module _ (f : InlineFrame) (fs : List InlineFrame) (s : Site) (h : readsName b f.name.0 ≡ true)
-      (k : siteOf b f.call_file.0 f.call_line.0 ≡ is s) where
-    calls-cons : calls_of b (f ∷ fs) ≡ andCall f.name.0 s (calls_of b fs)
+  module _ (f : InlineFrame) (fs : List InlineFrame) (s : Site) (h : reads_name b f.name.0 ≡ true)
+      (k : site_of b f.call_file.0 f.call_line.0 ≡ is s) where
+    calls-cons : calls_of b (f ∷ fs) ≡ and_call f.name.0 s (calls_of b fs)
     unfolding calls_of
     calls-cons = rw (h, k)
 
     calls-more : (cs : List Call) → calls_of b fs ≡ calls cs → calls_of b (f ∷ fs) ≡ calls (call f.name.0 s ∷ cs)
-    calls-more cs e = calls-cons ∙ ap (andCall f.name.0 s) e
+    calls-more cs e = calls-cons ∙ ap (and_call f.name.0 s) e
 
     calls-less : (n : ℕ) → calls_of b (f ∷ fs) ≡ no n → calls_of b fs ≡ no n
     calls-less n e = go (calls_of b fs) refl (sym calls-cons ∙ e)
       where
-        go : (r : Calls) → calls_of b fs ≡ r → andCall f.name.0 s r ≡ no n → calls_of b fs ≡ no n
+        go : (r : Calls) → calls_of b fs ≡ r → and_call f.name.0 s r ≡ no n → calls_of b fs ≡ no n
         go (calls cs) q p = never (let z : ◌≡◌ {A = ℕ} 0 1 = cc in z)
         go (no m) q p = q ∙ p
 
     calls-later : (n : ℕ) → calls_of b fs ≡ no n → calls_of b (f ∷ fs) ≡ no n
-    calls-later n e = calls-cons ∙ ap (andCall f.name.0 s) e
+    calls-later n e = calls-cons ∙ ap (and_call f.name.0 s) e
 
   -- a frame that doesn't read, before others
   uncalled-first : (f : InlineFrame) (fs : List InlineFrame) (n : ℕ) → Uncalled b f n → calls_of b (f ∷ fs) ≡ no n
@@ -130,18 +130,18 @@ module _ (b : Book) where
   pub calls-uncalled : (fs : List InlineFrame) (n : ℕ) → calls_of b fs ≡ no n → FirstUncalled b fs n
   calls-uncalled [] n e = never (let q = none in let z : ◌≡◌ {A = ℕ} 0 1 = cc in z)
   calls-uncalled (f ∷ fs) n e =
-      go (calls-uncalled fs n) (readsName b f.name.0) refl (siteOf b f.call_file.0 f.call_line.0) refl
+      go (calls-uncalled fs n) (reads_name b f.name.0) refl (site_of b f.call_file.0 f.call_line.0) refl
     where
       this-one : Uncalled b f n → FirstUncalled b (f ∷ fs) n
       this-one u = record { before = []; this = f; after = fs; split = refl; read = ([], none); unread = u }
 
-      go : (calls_of b fs ≡ no n → FirstUncalled b fs n) → (t : Bool) → readsName b f.name.0 ≡ t → (r : SiteRead) →
-          siteOf b f.call_file.0 f.call_line.0 ≡ r → FirstUncalled b (f ∷ fs) n
+      go : (calls_of b fs ≡ no n → FirstUncalled b fs n) → (t : Bool) → reads_name b f.name.0 ≡ t → (r : SiteRead) →
+          site_of b f.call_file.0 f.call_line.0 ≡ r → FirstUncalled b (f ∷ fs) n
       go rest false h r k =
-          this-one (no_name h (ap callsNo (sym e ∙ uncalled-first f fs 6 (no_name h refl))))
+          this-one (no_name h (ap calls_no (sym e ∙ uncalled-first f fs 6 (no_name h refl))))
       go rest true h (no m) k =
           let u = site-unplaced b f.call_file.0 f.call_line.0 m k in
-          let q : m ≡ n = ap callsNo (sym (uncalled-first f fs m (no-site h u)) ∙ e) in
+          let q : m ≡ n = ap calls_no (sym (uncalled-first f fs m (no-site h u)) ∙ e) in
           this-one (no-site h (rw (← q) u))
       go rest true h (is s) k =
           let R = rest (calls-less f fs s h k n e) in
@@ -158,15 +158,15 @@ module _ (b : Book) where
       calls_of b rest ≡ no n → calls_of b (fs ++ rest) ≡ no n
   skip_read [] rest cs n e u = u
   skip_read (f ∷ fs) rest cs n e u =
-      go (skip_read fs rest) (readsName b f.name.0) refl (siteOf b f.call_file.0 f.call_line.0) refl
+      go (skip_read fs rest) (reads_name b f.name.0) refl (site_of b f.call_file.0 f.call_line.0) refl
     where
       wrong : (m : ℕ) → Uncalled b f m → calls_of b (f ∷ fs ++ rest) ≡ no n
       wrong m w = never (let q = uncalled-first f fs m w in let z : ◌≡◌ {A = ℕ} 0 1 = cc in z)
 
       go : ((ds : List Call) (n : ℕ) → calls_of b fs ≡ calls ds → calls_of b rest ≡ no n →
           calls_of b (fs ++ rest) ≡ no n) →
-          (t : Bool) → readsName b f.name.0 ≡ t → (r : SiteRead) →
-          siteOf b f.call_file.0 f.call_line.0 ≡ r → calls_of b (f ∷ fs ++ rest) ≡ no n
+          (t : Bool) → reads_name b f.name.0 ≡ t → (r : SiteRead) →
+          site_of b f.call_file.0 f.call_line.0 ≡ r → calls_of b (f ∷ fs ++ rest) ≡ no n
       go more false h r k = wrong 6 (no_name h refl)
       go more true h (no m) k = wrong m (no-site h (site-unplaced b f.call_file.0 f.call_line.0 m k))
       go more true h (is s) k = by-rest (calls_of b fs) refl

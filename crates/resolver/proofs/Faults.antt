@@ -12,19 +12,19 @@ use Rattle.reads.specs.Pick.{pick}
 use Rattle.types.specs.declared.InlineFrame.{InlineFrame}
 use Rattle.linetab.specs.declared.RowFound.{RowFound}
 use Rattle.linetab.specs.declared.RowFound.TheVariants as found
-use Rattle.linetab.specs.Rows.{lineRow}
+use Rattle.linetab.specs.Rows.{line_row}
 use Rattle.inline.specs.Block.{Block, listed, refused}
 use Rattle.inline.proofs.Numbers.{never}
 use Rattle.resolver.specs.Data.{Piece}
 use Rattle.resolver.specs.Heard.{Ask, known, fault, after_block, hear}
-use Rattle.resolver.proofs.Heards.{RowKnown, row, unread, as_row, rowAfter, onRow, blockIn, framesAfter}
+use Rattle.resolver.proofs.Heards.{RowKnown, row, unread, as_row, row_after, on_row, block_in, frames_after}
 use Rattle.resolver.proofs.Heards.{hear-item}
 
 -- why an item refuses, after a row and frames known so far: 9 for a line header, else the inline block's number
 pub data ItemFault (q : Ask) (p : Piece) (r : RowFound) (fs : List InlineFrame) (n : ℕ) : Type 0 where
-  header : r ≡ found.Nothing → p.kind ≡ 1 → as_row (lineRow p.bytes q.symbol q.addr) ≡ unread → n ≡ 9 →
+  header : r ≡ found.Nothing → p.kind ≡ 1 → as_row (line_row p.bytes q.symbol q.addr) ≡ unread → n ≡ 9 →
       ItemFault q p r fs n
-  block : fs ≡ [] → p.kind ≡ 2 → q.inlining ≡ true → blockIn q p ≡ refused n → ItemFault q p r fs n
+  block : fs ≡ [] → p.kind ≡ 2 → q.inlining ≡ true → block_in q p ≡ refused n → ItemFault q p r fs n
 
 -- the first item that refuses
 pub record FirstFault (q : Ask) (ps : List Piece) (r : RowFound) (fs : List InlineFrame) (n : ℕ) : Type 0 where
@@ -40,59 +40,59 @@ pub record FirstFault (q : Ask) (ps : List Piece) (r : RowFound) (fs : List Inli
 module _ (q : Ask) where
   -- ---- one item
 
-  row-unread : (p : Piece) (r : RowFound) → rowAfter q p r ≡ unread →
-      (r ≡ found.Nothing) × (p.kind ≡ 1) × (as_row (lineRow p.bytes q.symbol q.addr) ≡ unread)
-  unfolding rowAfter
+  row-unread : (p : Piece) (r : RowFound) → row_after q p r ≡ unread →
+      (r ≡ found.Nothing) × (p.kind ≡ 1) × (as_row (line_row p.bytes q.symbol q.addr) ≡ unread)
+  unfolding row_after
   row-unread p (found.Row r) e = never (let z : ◌≡◌ {A = ℕ} 0 1 = cc in z)
   row-unread p found.Nothing e = go (eqb p.kind 1) refl e
     where
       go : (t : Bool) → eqb p.kind 1 ≡ t →
-          pick t (as_row (lineRow p.bytes q.symbol q.addr)) (row found.Nothing) ≡ unread →
+          pick t (as_row (line_row p.bytes q.symbol q.addr)) (row found.Nothing) ≡ unread →
           (found.Nothing ≡ found.Nothing) × (p.kind ≡ 1)
-          × (as_row (lineRow p.bytes q.symbol q.addr) ≡ unread)
+          × (as_row (line_row p.bytes q.symbol q.addr) ≡ unread)
       go true k e = (refl, eqb-true p.kind 1 k, e)
       go false k e = never (let z : ◌≡◌ {A = ℕ} 0 1 = cc in z)
 
-  unread-row : (p : Piece) → p.kind ≡ 1 → as_row (lineRow p.bytes q.symbol q.addr) ≡ unread →
-      rowAfter q p found.Nothing ≡ unread
-  unfolding rowAfter
+  unread-row : (p : Piece) → p.kind ≡ 1 → as_row (line_row p.bytes q.symbol q.addr) ≡ unread →
+      row_after q p found.Nothing ≡ unread
+  unfolding row_after
   unread-row p k e = rw (eq-eqb p.kind 1 k) e
 
-  other_row : (p : Piece) (r : RowFound) → p.kind ≡ 2 → rowAfter q p r ≡ row r
-  unfolding rowAfter
+  other_row : (p : Piece) (r : RowFound) → p.kind ≡ 2 → row_after q p r ≡ row r
+  unfolding row_after
   other_row p (found.Row r) k = refl
   other_row p found.Nothing k =
       let h : p.kind ≡ 1 → ⊥ = λ z. absurd (omega arith) in rw (ne_eqb p.kind 1 h)
 
-  frames-refused : (p : Piece) (fs : List InlineFrame) (n : ℕ) → framesAfter q p fs ≡ refused n →
-      (fs ≡ []) × (p.kind ≡ 2) × (q.inlining ≡ true) × (blockIn q p ≡ refused n)
-  unfolding framesAfter
+  frames-refused : (p : Piece) (fs : List InlineFrame) (n : ℕ) → frames_after q p fs ≡ refused n →
+      (fs ≡ []) × (p.kind ≡ 2) × (q.inlining ≡ true) × (block_in q p ≡ refused n)
+  unfolding frames_after
   frames-refused p (f ∷ fs) n e = never (let z : ◌≡◌ {A = ℕ} 0 1 = cc in z)
   frames-refused p [] n e = go (eqb p.kind 2) refl q.inlining refl e
     where
       go : (t : Bool) → eqb p.kind 2 ≡ t → (u : Bool) → q.inlining ≡ u →
-          pick t (pick u (blockIn q p) (listed [])) (listed []) ≡ refused n →
-          (◌≡◌ {A = List InlineFrame} [] []) × (p.kind ≡ 2) × (q.inlining ≡ true) × (blockIn q p ≡ refused n)
+          pick t (pick u (block_in q p) (listed [])) (listed []) ≡ refused n →
+          (◌≡◌ {A = List InlineFrame} [] []) × (p.kind ≡ 2) × (q.inlining ≡ true) × (block_in q p ≡ refused n)
       go true k true i e = (refl, eqb-true p.kind 2 k, i, e)
       go true k false i e = never (let z : ◌≡◌ {A = ℕ} 0 1 = cc in z)
       go false k u i e = never (let z : ◌≡◌ {A = ℕ} 0 1 = cc in z)
 
-  refused-frames : (p : Piece) (n : ℕ) → p.kind ≡ 2 → q.inlining ≡ true → blockIn q p ≡ refused n →
-      framesAfter q p [] ≡ refused n
-  unfolding framesAfter
+  refused-frames : (p : Piece) (n : ℕ) → p.kind ≡ 2 → q.inlining ≡ true → block_in q p ≡ refused n →
+      frames_after q p [] ≡ refused n
+  unfolding frames_after
   refused-frames p n k i e = rw (eq-eqb p.kind 2 k, i) e
 
   -- an item that refuses does so whatever follows
   pub item-fault : (p : Piece) (ps : List Piece) (r : RowFound) (fs : List InlineFrame) (n : ℕ) →
       ItemFault q p r fs n → hear q (p ∷ ps) r fs ≡ fault n
   item-fault p ps r fs n (header a k e m) =
-      let h : rowAfter q p r ≡ unread = ap (rowAfter q p) a ∙ unread-row p k e in
+      let h : row_after q p r ≡ unread = ap (row_after q p) a ∙ unread-row p k e in
       hear-item q p ps r fs
-      ∙ ap (onRow (λ s. after_block (λ gs. hear q ps s gs) (framesAfter q p fs))) h ∙ ap fault (sym m)
+      ∙ ap (on_row (λ s. after_block (λ gs. hear q ps s gs) (frames_after q p fs))) h ∙ ap fault (sym m)
   item-fault p ps r fs n (block a k i e) =
-      let h : framesAfter q p fs ≡ refused n = ap (framesAfter q p) a ∙ refused-frames p n k i e in
+      let h : frames_after q p fs ≡ refused n = ap (frames_after q p) a ∙ refused-frames p n k i e in
       hear-item q p ps r fs
-      ∙ ap (onRow (λ s. after_block (λ gs. hear q ps s gs) (framesAfter q p fs))) (other_row p r k)
+      ∙ ap (on_row (λ s. after_block (λ gs. hear q ps s gs) (frames_after q p fs))) (other_row p r k)
       ∙ ap (after_block (λ gs. hear q ps r gs)) h
 
   -- an item refuses, or the rest is heard with what is known after it
@@ -102,9 +102,9 @@ module _ (q : Ask) where
         ((rest : List Piece) → hear q (p ∷ rest) r fs ≡ hear q rest s gs) → ItemHeard p ps r fs
 
   pub item-heard : (p : Piece) (ps : List Piece) (r : RowFound) (fs : List InlineFrame) → ItemHeard p ps r fs
-  item-heard p ps r fs = go (rowAfter q p r) refl (framesAfter q p fs) refl
+  item-heard p ps r fs = go (row_after q p r) refl (frames_after q p fs) refl
     where
-      go : (k : RowKnown) → rowAfter q p r ≡ k → (b : Block) → framesAfter q p fs ≡ b → ItemHeard p ps r fs
+      go : (k : RowKnown) → row_after q p r ≡ k → (b : Block) → frames_after q p fs ≡ b → ItemHeard p ps r fs
       go unread e b f = let u = row-unread p r e in faulty 9 (header u.0 u.1 u.2 refl)
       go (row s) e (refused n) f =
           let u = frames-refused p fs n f in faulty n (block u.0 u.1 u.2 u.3)
@@ -112,7 +112,7 @@ module _ (q : Ask) where
           onward s gs
           (λ (rest : List Piece).
           hear-item q p rest r fs
-          ∙ ap (onRow (λ s. after_block (λ gs. hear q rest s gs) (framesAfter q p fs))) e
+          ∙ ap (on_row (λ s. after_block (λ gs. hear q rest s gs) (frames_after q p fs))) e
           ∙ ap (after_block (λ gs. hear q rest s gs)) f)
 
   -- ---- all items

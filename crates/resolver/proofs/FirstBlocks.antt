@@ -16,13 +16,13 @@ use Rattle.inline.proofs.Numbers.{never}
 use Rattle.inline.proofs.Demand.{refused-no}
 use Rattle.resolver.specs.Data.{Piece}
 use Rattle.resolver.specs.Heard.{Ask, known, fault, hear}
-use Rattle.resolver.proofs.Heards.{unread, rowsAlone, blockIn, framesAfter, thenFrames, framesAlone}
+use Rattle.resolver.proofs.Heards.{unread, rows_alone, block_in, frames_after, then_frames, frames_alone}
 use Rattle.resolver.proofs.Heards.{heard-parts, fault-part, frames-off}
 
 -- each inline block lists no frames
 unfoldable pub Frameless : Ask → List Piece → Type 0
 Frameless q [] = Unit {0}
-Frameless q (p ∷ ps) = (p.kind ≡ 2 → blockIn q p ≡ listed []) × Frameless q ps
+Frameless q (p ∷ ps) = (p.kind ≡ 2 → block_in q p ≡ listed []) × Frameless q ps
 
 -- the first inline block that doesn't list none, and what it gives
 pub record Deciding (q : Ask) (ps : List Piece) (b : Block) : Type 0 where
@@ -32,76 +32,76 @@ pub record Deciding (q : Ask) (ps : List Piece) (b : Block) : Type 0 where
   pub split : ps ≡ before ++ this ∷ after
   pub frameless : Frameless q before
   pub kind : this.kind ≡ 2
-  pub gives : blockIn q this ≡ b
+  pub gives : block_in q this ≡ b
 
 module _ (q : Ask) where
   -- ---- one item
 
-  other_item : (p : Piece) → eqb p.kind 2 ≡ false → framesAfter q p [] ≡ listed []
-  unfolding framesAfter
+  other_item : (p : Piece) → eqb p.kind 2 ≡ false → frames_after q p [] ≡ listed []
+  unfolding frames_after
   other_item p h = rw h
 
-  block-item : (p : Piece) → eqb p.kind 2 ≡ true → q.inlining ≡ true → framesAfter q p [] ≡ blockIn q p
-  unfolding framesAfter
+  block-item : (p : Piece) → eqb p.kind 2 ≡ true → q.inlining ≡ true → frames_after q p [] ≡ block_in q p
+  unfolding frames_after
   block-item p h i = rw (h, i)
 
-  kept-item : (p : Piece) (f : InlineFrame) (fs : List InlineFrame) → framesAfter q p (f ∷ fs) ≡ listed (f ∷ fs)
-  unfolding framesAfter
+  kept-item : (p : Piece) (f : InlineFrame) (fs : List InlineFrame) → frames_after q p (f ∷ fs) ≡ listed (f ∷ fs)
+  unfolding frames_after
   kept-item p f fs = refl
 
-  item-then : (p : Piece) (ps : List Piece) (fs : List InlineFrame) (b : Block) → framesAfter q p fs ≡ b →
-      framesAlone q (p ∷ ps) fs ≡ thenFrames (framesAlone q ps) b
-  unfolding framesAlone
-  item-then p ps fs b e = ap (thenFrames (framesAlone q ps)) e
+  item-then : (p : Piece) (ps : List Piece) (fs : List InlineFrame) (b : Block) → frames_after q p fs ≡ b →
+      frames_alone q (p ∷ ps) fs ≡ then_frames (frames_alone q ps) b
+  unfolding frames_alone
+  item-then p ps fs b e = ap (then_frames (frames_alone q ps)) e
 
-  empty-list : (fs : List InlineFrame) → framesAlone q [] fs ≡ listed fs
-  unfolding framesAlone
+  empty-list : (fs : List InlineFrame) → frames_alone q [] fs ≡ listed fs
+  unfolding frames_alone
   empty-list fs = refl
 
   -- frames that are known stay
   pub frames-kept : (ps : List Piece) (f : InlineFrame) (fs : List InlineFrame) →
-      framesAlone q ps (f ∷ fs) ≡ listed (f ∷ fs)
+      frames_alone q ps (f ∷ fs) ≡ listed (f ∷ fs)
   frames-kept [] f fs = empty-list (f ∷ fs)
   frames-kept (p ∷ ps) f fs = item-then p ps (f ∷ fs) (listed (f ∷ fs)) (kept-item p f fs) ∙ frames-kept ps f fs
 
   -- an inline block that doesn't list none decides
   decides : (p : Piece) (ps : List Piece) (b : Block) → eqb p.kind 2 ≡ true → q.inlining ≡ true →
-      blockIn q p ≡ b → (b ≡ listed [] → ⊥) → framesAlone q (p ∷ ps) [] ≡ b
+      block_in q p ≡ b → (b ≡ listed [] → ⊥) → frames_alone q (p ∷ ps) [] ≡ b
   decides p ps (listed []) h i e n = absurd (n refl)
   decides p ps (listed (f ∷ fs)) h i e n =
       item-then p ps [] (listed (f ∷ fs)) (block-item p h i ∙ e) ∙ frames-kept ps f fs
   decides p ps (refused m) h i e n = item-then p ps [] (refused m) (block-item p h i ∙ e)
 
   -- an item without frames is passed
-  passed : (p : Piece) (ps : List Piece) → q.inlining ≡ true → (p.kind ≡ 2 → blockIn q p ≡ listed []) →
-      framesAlone q (p ∷ ps) [] ≡ framesAlone q ps []
+  passed : (p : Piece) (ps : List Piece) → q.inlining ≡ true → (p.kind ≡ 2 → block_in q p ≡ listed []) →
+      frames_alone q (p ∷ ps) [] ≡ frames_alone q ps []
   passed p ps i h = go (eqb p.kind 2) refl
     where
-      go : (t : Bool) → eqb p.kind 2 ≡ t → framesAlone q (p ∷ ps) [] ≡ framesAlone q ps []
+      go : (t : Bool) → eqb p.kind 2 ≡ t → frames_alone q (p ∷ ps) [] ≡ frames_alone q ps []
       go true k = item-then p ps [] (listed []) (block-item p k i ∙ h (eqb-true p.kind 2 k))
       go false k = item-then p ps [] (listed []) (other_item p k)
 
   -- ---- all items
 
   module _ (i : q.inlining ≡ true) where
-    pass_all : (ps rest : List Piece) → Frameless q ps → framesAlone q (ps ++ rest) [] ≡ framesAlone q rest []
+    pass_all : (ps rest : List Piece) → Frameless q ps → frames_alone q (ps ++ rest) [] ≡ frames_alone q rest []
     unfolding Frameless
     pass_all [] rest F = refl
     pass_all (p ∷ ps) rest F = passed p (ps ++ rest) i F.0 ∙ pass_all ps rest F.1
 
-    pub frameless-frames : (ps : List Piece) → Frameless q ps → framesAlone q ps [] ≡ listed []
+    pub frameless-frames : (ps : List Piece) → Frameless q ps → frames_alone q ps [] ≡ listed []
     unfolding Frameless
     frameless-frames [] F = empty-list []
     frameless-frames (p ∷ ps) F = passed p ps i F.0 ∙ frameless-frames ps F.1
 
     pub deciding-frames : (ps : List Piece) (b : Block) → (b ≡ listed [] → ⊥) → Deciding q ps b →
-        framesAlone q ps [] ≡ b
+        frames_alone q ps [] ≡ b
     deciding-frames ps b n D =
-        ap (λ (l : List Piece). framesAlone q l []) D.split
+        ap (λ (l : List Piece). frames_alone q l []) D.split
         ∙ pass_all D.before (D.this ∷ D.after) D.frameless
         ∙ decides D.this D.after b (eq-eqb D.this.kind 2 D.kind) i D.gives n
 
-  further : (p : Piece) (ps : List Piece) (b : Block) → (p.kind ≡ 2 → blockIn q p ≡ listed []) →
+  further : (p : Piece) (ps : List Piece) (b : Block) → (p.kind ≡ 2 → block_in q p ≡ listed []) →
       Deciding q ps b → Deciding q (p ∷ ps) b
   unfolding Frameless
   further p ps b h D =
@@ -115,18 +115,18 @@ module _ (q : Ask) where
         gives = D.gives;
       }
 
-  first_one : (p : Piece) (ps : List Piece) (b : Block) → p.kind ≡ 2 → blockIn q p ≡ b → Deciding q (p ∷ ps) b
+  first_one : (p : Piece) (ps : List Piece) (b : Block) → p.kind ≡ 2 → block_in q p ≡ b → Deciding q (p ∷ ps) b
   unfolding Frameless
   first_one p ps b k e =
       record { before = []; this = p; after = ps; split = refl; frameless = tt; kind = k; gives = e }
 
-  pub frames-deciding : (ps : List Piece) (b : Block) → (b ≡ listed [] → ⊥) → framesAlone q ps [] ≡ b →
+  pub frames-deciding : (ps : List Piece) (b : Block) → (b ≡ listed [] → ⊥) → frames_alone q ps [] ≡ b →
       Deciding q ps b
   frames-deciding [] b n e = absurd (n (sym e ∙ empty-list []))
   frames-deciding (p ∷ ps) b n e = by-inlining q.inlining refl (frames-deciding ps b n)
     where
-      by-block : q.inlining ≡ true → eqb p.kind 2 ≡ true → (framesAlone q ps [] ≡ b → Deciding q ps b) →
-          (x : Block) → blockIn q p ≡ x → Deciding q (p ∷ ps) b
+      by-block : q.inlining ≡ true → eqb p.kind 2 ≡ true → (frames_alone q ps [] ≡ b → Deciding q ps b) →
+          (x : Block) → block_in q p ≡ x → Deciding q (p ∷ ps) b
       by-block i k rest (listed []) g =
           further p ps b (λ z. g) (rest (sym (passed p ps i (λ z. g)) ∙ e))
       by-block i k rest (listed (f ∷ fs)) g =
@@ -136,14 +136,14 @@ module _ (q : Ask) where
           let d = decides p ps (refused m) k i g (λ z. never (let y : ◌≡◌ {A = ℕ} 0 1 = cc in y)) in
           first_one p ps b (eqb-true p.kind 2 k) (g ∙ sym d ∙ e)
 
-      by_kind : q.inlining ≡ true → (framesAlone q ps [] ≡ b → Deciding q ps b) →
+      by_kind : q.inlining ≡ true → (frames_alone q ps [] ≡ b → Deciding q ps b) →
           (t : Bool) → eqb p.kind 2 ≡ t → Deciding q (p ∷ ps) b
-      by_kind i rest true k = by-block i k rest (blockIn q p) refl
+      by_kind i rest true k = by-block i k rest (block_in q p) refl
       by_kind i rest false k =
-          let h : p.kind ≡ 2 → blockIn q p ≡ listed [] = λ z. absurd (eqb-false p.kind 2 k z) in
+          let h : p.kind ≡ 2 → block_in q p ≡ listed [] = λ z. absurd (eqb-false p.kind 2 k z) in
           further p ps b h (rest (sym (passed p ps i h) ∙ e))
 
-      by-inlining : (u : Bool) → q.inlining ≡ u → (framesAlone q ps [] ≡ b → Deciding q ps b) →
+      by-inlining : (u : Bool) → q.inlining ≡ u → (frames_alone q ps [] ≡ b → Deciding q ps b) →
           Deciding q (p ∷ ps) b
       by-inlining true i rest = by_kind i rest (eqb p.kind 2) refl
       by-inlining false i rest = absurd (n (sym e ∙ frames-off q i (p ∷ ps) []))
@@ -159,11 +159,11 @@ module _ (q : Ask) where
 
   -- a fault is a line header's, or the refusal of the deciding block
   pub heard-fault : (ps : List Piece) (r : RowFound) (n : ℕ) → hear q ps r [] ≡ fault n →
-      ((n ≡ 9) × (rowsAlone q ps r ≡ unread)) ⊎ Deciding q ps (refused n)
+      ((n ≡ 9) × (rows_alone q ps r ≡ unread)) ⊎ Deciding q ps (refused n)
   heard-fault ps r n e =
       ⊎_elim
-      (λ (l : (n ≡ 9) × (rowsAlone q ps r ≡ unread)). inl l)
-      (λ (f : framesAlone q ps [] ≡ refused n).
+      (λ (l : (n ≡ 9) × (rows_alone q ps r ≡ unread)). inl l)
+      (λ (f : frames_alone q ps [] ≡ refused n).
       inr (frames-deciding ps (refused n) (λ z. never (let y : ◌≡◌ {A = ℕ} 0 1 = cc in y)) f))
       (fault-part q ps r [] n e)
 
@@ -171,7 +171,7 @@ module _ (q : Ask) where
   pub heard-no : (ps : List Piece) (r : RowFound) (n : ℕ) → hear q ps r [] ≡ fault n → (9 ≤ n) × (n ≤ 14)
   heard-no ps r n e =
       ⊎_elim
-      (λ (l : (n ≡ 9) × (rowsAlone q ps r ≡ unread)). let k = l.0 in (omega (arith, k), omega (arith, k)))
+      (λ (l : (n ≡ 9) × (rows_alone q ps r ≡ unread)). let k = l.0 in (omega (arith, k), omega (arith, k)))
       (λ (D : Deciding q ps (refused n)).
       let l = refused-no q.symbol.0 q.addr.0 q.room D.this.bytes n D.gives in
       (omega (arith, l.0), l.1))
@@ -180,7 +180,7 @@ module _ (q : Ask) where
   pub heard-off : (ps : List Piece) (r : RowFound) (n : ℕ) → q.inlining ≡ false → hear q ps r [] ≡ fault n → n ≡ 9
   heard-off ps r n i e =
       ⊎_elim
-      (λ (l : (n ≡ 9) × (rowsAlone q ps r ≡ unread)). l.0)
-      (λ (f : framesAlone q ps [] ≡ refused n).
+      (λ (l : (n ≡ 9) × (rows_alone q ps r ≡ unread)). l.0)
+      (λ (f : frames_alone q ps [] ≡ refused n).
       let k = frames-off q i ps [] in never (let z : ◌≡◌ {A = ℕ} 0 1 = cc in z))
       (fault-part q ps r [] n e)

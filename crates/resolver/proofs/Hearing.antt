@@ -16,50 +16,50 @@ use Rattle.linetab.specs.declared.RowFound.{RowFound}
 use Rattle.linetab.specs.declared.RowFound.TheVariants as found
 use Rattle.linetab.specs.declared.LineRead.{LineRead}
 use Rattle.linetab.specs.declared.LineRead.TheVariants as line
-use Rattle.linetab.specs.Rows.{lineRow}
+use Rattle.linetab.specs.Rows.{line_row}
 use Rattle.inline.specs.Block.{Block, listed, refused, block_of}
 use Rattle.inline.proofs.Answers.{block_room}
 use Rattle.resolver.specs.declared.items.LineHeard.{LineHeard}
 use Rattle.resolver.specs.declared.items.LineHeard.TheVariants as heard
 use Rattle.resolver.specs.Data.{Piece}
-use Rattle.resolver.specs.Heard.{Ask, Heard, known, fault, afterLine, after_block, hearRow, hearFrames, hear}
-use Rattle.resolver.specs.Stages.{asHeard, lineHeard}
+use Rattle.resolver.specs.Heard.{Ask, Heard, known, fault, after_line, after_block, hear_row, hear_frames, hear}
+use Rattle.resolver.specs.Stages.{as_heard, line_heard}
 
 -- ---- what an item leaves alone
 
 -- an item of another kind leaves the row
 row-passes :
-    (q : Ask) (p : Piece) (go : RowFound → Heard) (r : RowFound) → (p.kind ≡ 1 → ⊥) → hearRow q p go r ≡ go r
-unfolding hearRow
+    (q : Ask) (p : Piece) (go : RowFound → Heard) (r : RowFound) → (p.kind ≡ 1 → ⊥) → hear_row q p go r ≡ go r
+unfolding hear_row
 row-passes q p go (found.Row r) n = refl
 row-passes q p go found.Nothing n = rw (ne_eqb p.kind 1 n) refl
 
 -- and the frames
 frames-pass :
     (q : Ask) (p : Piece) (go : List InlineFrame → Heard) (fs : List InlineFrame) → (p.kind ≡ 2 → ⊥) →
-    hearFrames q p go fs ≡ go fs
-unfolding hearFrames
+    hear_frames q p go fs ≡ go fs
+unfolding hear_frames
 frames-pass q p go (f ∷ fs) n = refl
 frames-pass q p go [] n = rw (ne_eqb p.kind 2 n) refl
 
 -- frames that are known stay
 frames-stay :
     (q : Ask) (p : Piece) (go : List InlineFrame → Heard) (fs : List InlineFrame) → 0 < length fs →
-    hearFrames q p go fs ≡ go fs
-unfolding hearFrames
+    hear_frames q p go fs ≡ go fs
+unfolding hear_frames
 frames-stay q p go (f ∷ fs) l = refl
 frames-stay q p go [] l = absurd (omega arith)
 
 -- ---- one item
 
 -- by the row known after a line block
-abbrev pub afterRow : (RowFound → Heard) → LineHeard → Heard
-afterRow go (heard.Is r) = go r
-afterRow go heard.Unread = fault 9
+abbrev pub after_row : (RowFound → Heard) → LineHeard → Heard
+after_row go (heard.Is r) = go r
+after_row go heard.Unread = fault 9
 
 line_read :
     (go to : RowFound → Heard) → ((r : RowFound) → go r ≡ to r) → (l : LineRead) →
-    afterLine go l ≡ afterRow to (asHeard l)
+    after_line go l ≡ after_row to (as_heard l)
 line_read go to h (line.Row r) = h (found.Row r)
 line_read go to h line.Nothing = h found.Nothing
 line_read go to h line.Short = refl
@@ -69,21 +69,21 @@ module _ (q : Ask) (p : Piece) (ps : List Piece) where
   -- a line block
   pub hear-line :
       (r : RowFound) (fs : List InlineFrame) → p.kind ≡ 1 →
-      hear q (p ∷ ps) r fs ≡ afterRow (λ s. hear q ps s fs) (lineHeard p.bytes q.symbol q.addr r)
-  unfolding hear hearRow lineHeard
+      hear q (p ∷ ps) r fs ≡ after_row (λ s. hear q ps s fs) (line_heard p.bytes q.symbol q.addr r)
+  unfolding hear hear_row line_heard
   hear-line (found.Row r) fs k = frames-pass q p (λ gs. hear q ps (found.Row r) gs) fs (λ e. omega arith)
   hear-line found.Nothing fs k =
       rw (eq-eqb p.kind 1 k)
       (line_read
-      (λ s. hearFrames q p (λ gs. hear q ps s gs) fs)
+      (λ s. hear_frames q p (λ gs. hear q ps s gs) fs)
       (λ s. hear q ps s fs)
       (λ s. frames-pass q p (λ gs. hear q ps s gs) fs (λ e. omega arith))
-      (lineRow p.bytes q.symbol q.addr))
+      (line_row p.bytes q.symbol q.addr))
 
   module _ (r : RowFound) (fs : List InlineFrame) (not-Line : p.kind ≡ 1 → ⊥) where
-    first : hear q (p ∷ ps) r fs ≡ hearFrames q p (λ gs. hear q ps r gs) fs
+    first : hear q (p ∷ ps) r fs ≡ hear_frames q p (λ gs. hear q ps r gs) fs
     unfolding hear
-    first = row-passes q p (λ s. hearFrames q p (λ gs. hear q ps s gs) fs) r not-Line
+    first = row-passes q p (λ s. hear_frames q p (λ gs. hear q ps s gs) fs) r not-Line
 
     -- another kind
     pub hear-other : (p.kind ≡ 2 → ⊥) → hear q (p ∷ ps) r fs ≡ hear q ps r fs
@@ -98,20 +98,20 @@ module _ (q : Ask) (p : Piece) (ps : List Piece) where
       (r : RowFound) → p.kind ≡ 2 → q.inlining ≡ true →
       hear q (p ∷ ps) r []
       ≡ after_block (λ gs. hear q ps r gs) (block_of q.symbol.0 q.addr.0 q.room p.bytes)
-  unfolding hearFrames
+  unfolding hear_frames
   hear-block r k w = first r [] (λ e. omega arith) ∙ rw (eq-eqb p.kind 2 k, w) refl
 
 -- ---- `hear_line`
 
 module _ (bytes : List ℕ) (symbol addr : Address) (row : RowFound) where
-  pub heard-row : (r : LineTableRow) → row ≡ found.Row r → heard.Is row ≡ lineHeard bytes symbol addr row
-  unfolding lineHeard
+  pub heard-row : (r : LineTableRow) → row ≡ found.Row r → heard.Is row ≡ line_heard bytes symbol addr row
+  unfolding line_heard
   heard-row r e = rw e refl
 
   pub heard-read :
-      row ≡ found.Nothing → (x : LineRead) → x ≡ lineRow bytes symbol addr → (y : LineRead) → x ≡ y →
-      asHeard y ≡ lineHeard bytes symbol addr row
-  unfolding lineHeard
+      row ≡ found.Nothing → (x : LineRead) → x ≡ line_row bytes symbol addr → (y : LineRead) → x ≡ y →
+      as_heard y ≡ line_heard bytes symbol addr row
+  unfolding line_heard
   heard-read n x X y e = rw (n, ← X, e) refl
 
 -- ---- never more frames than room
@@ -123,12 +123,12 @@ Roomy room (fault n) = 0 ≤ room
 module _ (q : Ask) (p : Piece) where
   row-roomy :
       (go : RowFound → Heard) (r : RowFound) → ((s : RowFound) → Roomy q.room (go s)) →
-      Roomy q.room (hearRow q p go r)
-  unfolding hearRow
+      Roomy q.room (hear_row q p go r)
+  unfolding hear_row
   row-roomy go (found.Row r) h = h (found.Row r)
-  row-roomy go found.Nothing h = tested (eqb p.kind 1) (lineRow p.bytes q.symbol q.addr)
+  row-roomy go found.Nothing h = tested (eqb p.kind 1) (line_row p.bytes q.symbol q.addr)
     where
-      tested : (b : Bool) (l : LineRead) → Roomy q.room (pick b (afterLine go l) (go found.Nothing))
+      tested : (b : Bool) (l : LineRead) → Roomy q.room (pick b (after_line go l) (go found.Nothing))
       tested false l = h found.Nothing
       tested true (line.Row r) = h (found.Row r)
       tested true line.Nothing = h found.Nothing
@@ -138,8 +138,8 @@ module _ (q : Ask) (p : Piece) where
   frames-roomy :
       (go : List InlineFrame → Heard) (fs : List InlineFrame) → length fs ≤ q.room →
       ((gs : List InlineFrame) → length gs ≤ q.room → Roomy q.room (go gs)) →
-      Roomy q.room (hearFrames q p go fs)
-  unfolding hearFrames
+      Roomy q.room (hear_frames q p go fs)
+  unfolding hear_frames
   frames-roomy go (f ∷ fs) l h = h (f ∷ fs) l
   frames-roomy go [] l h =
       tested (eqb p.kind 2) q.inlining (block_of q.symbol.0 q.addr.0 q.room p.bytes) refl
@@ -158,7 +158,7 @@ hear-roomy :
 unfolding hear
 hear-roomy q [] r fs l = l
 hear-roomy q (p ∷ ps) r fs l =
-    row-roomy q p (λ s. hearFrames q p (λ gs. hear q ps s gs) fs) r
+    row-roomy q p (λ s. hear_frames q p (λ gs. hear q ps s gs) fs) r
     (λ s. frames-roomy q p (λ gs. hear q ps s gs) fs l (λ gs m. hear-roomy q ps s gs m))
 
 pub heard-room :

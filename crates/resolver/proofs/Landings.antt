@@ -20,20 +20,20 @@ use Rattle.parser.specs.declared.Opened.TheVariants as opened
 use Rattle.parser.specs.declared.Found.{Found}
 use Rattle.parser.specs.declared.Found.TheVariants as at
 use Rattle.parser.specs.Header.{Within, opened_of}
-use Rattle.parser.specs.Search.{findOf}
-use Rattle.parser.specs.Entries.{symbol_at, infoAt, coveredBy}
+use Rattle.parser.specs.Search.{find_of}
+use Rattle.parser.specs.Entries.{symbol_at, info_at, covered_by}
 use Rattle.parser.proofs.Places.{tables-within}
 use Rattle.resolver.specs.declared.Entry.{Entry}
 use Rattle.resolver.specs.declared.landing.EntryRead.{EntryRead}
 use Rattle.resolver.specs.declared.landing.EntryRead.TheVariants as entry
 use Rattle.resolver.specs.declared.landing.Landing.TheVariants as land
-use Rattle.resolver.specs.Data.{Data, is, asData, itemsAt, data_of}
-use Rattle.resolver.specs.Book.{bookOf}
+use Rattle.resolver.specs.Data.{Data, is, as_data, items_at, data_of}
+use Rattle.resolver.specs.Book.{book_of}
 use Rattle.resolver.specs.Heard.{ask}
-use Rattle.resolver.specs.Says.{sayMore, sayOf}
-use Rattle.resolver.specs.Spell.{refusing, spellText, spell}
-use Rattle.resolver.specs.Lookup.{answer_of, answerAt, afterFound, afterOpened, lookupOf}
-use Rattle.resolver.specs.Stages.{onName, onInfo, entry_at, landOn, landFound, landOpened, landingOf}
+use Rattle.resolver.specs.Says.{say_more, say_of}
+use Rattle.resolver.specs.Spell.{refusing, spell_text, spell}
+use Rattle.resolver.specs.Lookup.{answer_of, answer_at, after_found, after_opened, lookup_of}
+use Rattle.resolver.specs.Stages.{on_name, on_info, entry_at, land_on, land_found, land_opened, landing_of}
 use Rattle.resolver.proofs.Books.{never, name-is, name-unread}
 
 -- ---- an entry
@@ -42,43 +42,43 @@ abbrev pub entered : Address → AddrInfo → Text → Entry
 entered symbol a name = record { symbol = symbol; size = a.size; name = name; items = a.items }
 
 module _ (file : List ℕ) (t : Tables) (i : ℕ) (addr symbol : Address) (s : symbol ≡ symbol_at file t i) where
-  pub entry-unread : infoAt file t i ≡ info.Unread → entry.Refused 5 ≡ entry_at file t i addr
-  unfolding entry_at onInfo
+  pub entry-unread : info_at file t i ≡ info.Unread → entry.Refused 5 ≡ entry_at file t i addr
+  unfolding entry_at on_info
   entry-unread e = rw e
 
-  module _ (a : AddrInfo) (e : infoAt file t i ≡ info.Is a) where
-    pub entry_past : coveredBy addr symbol a.size ≡ false → entry.Refused 1 ≡ entry_at file t i addr
-    unfolding entry_at onInfo
+  module _ (a : AddrInfo) (e : info_at file t i ≡ info.Is a) where
+    pub entry_past : covered_by addr symbol a.size ≡ false → entry.Refused 1 ≡ entry_at file t i addr
+    unfolding entry_at on_info
     entry_past c = rw (e, ← s, c)
 
-    module _ (c : coveredBy addr symbol a.size ≡ true) where
+    module _ (c : covered_by addr symbol a.size ≡ true) where
       pub entry-no-name :
           name_at file t.strings a.name ≡ text.Unread → entry.Refused 6 ≡ entry_at file t i addr
-      unfolding entry_at onInfo onName
+      unfolding entry_at on_info on_name
       entry-no-name n = rw (e, ← s, c, n)
 
       pub entry-is :
           (name : Text) → name_at file t.strings a.name ≡ text.Is name →
           entry.Is (entered symbol a name) ≡ entry_at file t i addr
-      unfolding entry_at onInfo onName
+      unfolding entry_at on_info on_name
       entry-is name n = rw (e, ← s, c, n)
 
 -- ---- the landing
 
 module _ (file : List ℕ) (addr : Address) where
-  pub land-refused : (n : ℕ) → opened_of file ≡ opened.Refused n → land.Refused n ≡ landingOf file addr
-  unfolding landingOf landOpened
+  pub land-refused : (n : ℕ) → opened_of file ≡ opened.Refused n → land.Refused n ≡ landing_of file addr
+  unfolding landing_of land_opened
   land-refused n o = rw o
 
   module _ (t : Tables) (o : opened_of file ≡ opened.Is t) where
-    pub land-unknown : findOf file t addr ≡ at.Unknown → land.Refused 1 ≡ landingOf file addr
-    unfolding landingOf landOpened landFound
+    pub land-unknown : find_of file t addr ≡ at.Unknown → land.Refused 1 ≡ landing_of file addr
+    unfolding landing_of land_opened land_found
     land-unknown f = rw (o, f)
 
     pub land-entry :
-        (i : ℕ) (r : EntryRead) → findOf file t addr ≡ at.At i → r ≡ entry_at file t i addr →
-        landOn t r ≡ landingOf file addr
-    unfolding landingOf landOpened landFound
+        (i : ℕ) (r : EntryRead) → find_of file t addr ≡ at.At i → r ≡ entry_at file t i addr →
+        land_on t r ≡ landing_of file addr
+    unfolding landing_of land_opened land_found
     land-entry i r f e = rw (o, f, e)
 
 -- ---- what a lookup says by it
@@ -87,34 +87,34 @@ module _ (file : List ℕ) (addr : Address) where
 pub record Landed (file : List ℕ) (addr : Address) (t : Tables) (e : Entry) : Type 0 where
   pub said : Data
   pub size : said.size ≡ e.size
-  pub name : spellText (bookOf file t) t.strings.place said.name ≡ e.name
-  pub items : said.items ≡ (itemsAt file e.items).list
+  pub name : spell_text (book_of file t) t.strings.place said.name ≡ e.name
+  pub items : said.items ≡ (items_at file e.items).list
   pub within : Within file t
   pub says :
       (o : Options) (room : ℕ) →
-      lookupOf file addr o room
-      ≡ spell (bookOf file t) t.strings.place e.symbol
-      (sayMore (bookOf file t) said (ask e.symbol addr room o.inlining) o.code_info)
+      lookup_of file addr o room
+      ≡ spell (book_of file t) t.strings.place e.symbol
+      (say_more (book_of file t) said (ask e.symbol addr room o.inlining) o.code_info)
 
-abbrev dataFrom : List ℕ → AddrInfo → Data
-dataFrom file a = record {
+abbrev data_from : List ℕ → AddrInfo → Data
+data_from file a = record {
   size = a.size;
   name = a.name.0;
-  items = (itemsAt file a.items).list;
-  closed = (itemsAt file a.items).closed;
+  items = (items_at file a.items).list;
+  closed = (items_at file a.items).closed;
 }
 
 module _ (file : List ℕ) (addr : Address) (t : Tables) (o : opened_of file ≡ opened.Is t) (i : ℕ)
-    (f : findOf file t addr ≡ at.At i) (a : AddrInfo) (e : infoAt file t i ≡ info.Is a)
-    (c : coveredBy addr (symbol_at file t i) a.size ≡ true) (name : Text)
+    (f : find_of file t addr ≡ at.At i) (a : AddrInfo) (e : info_at file t i ≡ info.Is a)
+    (c : covered_by addr (symbol_at file t i) a.size ≡ true) (name : Text)
     (n : name_at file t.strings a.name ≡ text.Is name) where
   entry-landed : Landed file addr t (entered (symbol_at file t i) a name)
-  unfolding lookupOf afterOpened afterFound answerAt answer_of data_of sayOf
+  unfolding lookup_of after_opened after_found answer_at answer_of data_of say_of
   entry-landed =
       let w = tables-within file t o in
       let q = name-is file t w a.name name n in
       record {
-        said = dataFrom file a;
+        said = data_from file a;
         size = refl;
         name = sym q.1;
         items = refl;
@@ -127,13 +127,13 @@ module _ (file : List ℕ) (addr : Address) (u : Tables) (d : Entry) where
   refused-on n h = let z : ◌≡◌ {A = ℕ} 0 1 = cc in never z
 
   module _ (t : Tables) (o : opened_of file ≡ opened.Is t) where
-    module _ (i : ℕ) (f : findOf file t addr ≡ at.At i) where
-      module _ (a : AddrInfo) (e : infoAt file t i ≡ info.Is a) where
+    module _ (i : ℕ) (f : find_of file t addr ≡ at.At i) where
+      module _ (a : AddrInfo) (e : info_at file t i ≡ info.Is a) where
         by_name :
-            coveredBy addr (symbol_at file t i) a.size ≡ true →
+            covered_by addr (symbol_at file t i) a.size ≡ true →
             (r : TextRead) → name_at file t.strings a.name ≡ r →
-            landOn t (onName (symbol_at file t i) a r) ≡ land.On u d → Landed file addr u d
-        unfolding onName
+            land_on t (on_name (symbol_at file t i) a r) ≡ land.On u d → Landed file addr u d
+        unfolding on_name
         by_name c (text.Is name) n h =
             let p : t ≡ u = cc in
             let q : entered (symbol_at file t i) a name ≡ d = cc in
@@ -141,33 +141,33 @@ module _ (file : List ℕ) (addr : Address) (u : Tables) (d : Entry) where
         by_name c text.Unread n h = refused-on 6 h
 
         by_size :
-            (b : Bool) → coveredBy addr (symbol_at file t i) a.size ≡ b →
-            landOn t (pick b (onName (symbol_at file t i) a (name_at file t.strings a.name)) (entry.Refused 1))
+            (b : Bool) → covered_by addr (symbol_at file t i) a.size ≡ b →
+            land_on t (pick b (on_name (symbol_at file t i) a (name_at file t.strings a.name)) (entry.Refused 1))
             ≡ land.On u d →
             Landed file addr u d
         by_size true c h = by_name c (name_at file t.strings a.name) refl h
         by_size false c h = refused-on 1 h
 
       by-info :
-          (r : InfoRead) → infoAt file t i ≡ r → landOn t (onInfo file t (symbol_at file t i) addr r) ≡ land.On u d →
+          (r : InfoRead) → info_at file t i ≡ r → land_on t (on_info file t (symbol_at file t i) addr r) ≡ land.On u d →
           Landed file addr u d
-      unfolding onInfo
-      by-info (info.Is a) e h = by_size a e (coveredBy addr (symbol_at file t i) a.size) refl h
+      unfolding on_info
+      by-info (info.Is a) e h = by_size a e (covered_by addr (symbol_at file t i) a.size) refl h
       by-info info.Unread e h = refused-on 5 h
 
     by-found :
-        (r : Found) → findOf file t addr ≡ r → landFound file t addr r ≡ land.On u d → Landed file addr u d
-    unfolding landFound entry_at
-    by-found (at.At i) f h = by-info i f (infoAt file t i) refl h
+        (r : Found) → find_of file t addr ≡ r → land_found file t addr r ≡ land.On u d → Landed file addr u d
+    unfolding land_found entry_at
+    by-found (at.At i) f h = by-info i f (info_at file t i) refl h
     by-found at.Unknown f h = refused-on 1 h
 
-  by-opened : (r : Opened) → opened_of file ≡ r → landOpened file addr r ≡ land.On u d → Landed file addr u d
-  unfolding landOpened
-  by-opened (opened.Is t) o h = by-found t o (findOf file t addr) refl h
+  by-opened : (r : Opened) → opened_of file ≡ r → land_opened file addr r ≡ land.On u d → Landed file addr u d
+  unfolding land_opened
+  by-opened (opened.Is t) o h = by-found t o (find_of file t addr) refl h
   by-opened (opened.Refused n) o h = refused-on n h
 
-  pub landed : landingOf file addr ≡ land.On u d → Landed file addr u d
-  unfolding landingOf
+  pub landed : landing_of file addr ≡ land.On u d → Landed file addr u d
+  unfolding landing_of
   landed h = by-opened (opened_of file) refl h
 
 -- ---- a refusal is the lookup's
@@ -182,44 +182,44 @@ module _ (file : List ℕ) (addr : Address) (k : ℕ) (p : Options) (room : ℕ)
   module _ (t : Tables) (w : Within file t) (symbol : Address) where
     module _ (a : AddrInfo) where
       no_name :
-          coveredBy addr symbol a.size ≡ true → (r : TextRead) → name_at file t.strings a.name ≡ r →
-          landOn t (onName symbol a r) ≡ land.Refused k →
-          answer_of file t symbol addr p room (is (dataFrom file a)) ≡ refusing k
-      unfolding onName answer_of sayOf spell
+          covered_by addr symbol a.size ≡ true → (r : TextRead) → name_at file t.strings a.name ≡ r →
+          land_on t (on_name symbol a r) ≡ land.Refused k →
+          answer_of file t symbol addr p room (is (data_from file a)) ≡ refusing k
+      unfolding on_name answer_of say_of spell
       no_name c (text.Is name) n h = on-refused t (entered symbol a name) h
       no_name c text.Unread n h = rw (c, name-unread file t w a.name n) (ap refusing (same 6 h))
 
       no_cover :
-          (b : Bool) → coveredBy addr symbol a.size ≡ b →
-          landOn t (pick b (onName symbol a (name_at file t.strings a.name)) (entry.Refused 1)) ≡ land.Refused k →
-          answer_of file t symbol addr p room (is (dataFrom file a)) ≡ refusing k
-      unfolding answer_of sayOf spell
+          (b : Bool) → covered_by addr symbol a.size ≡ b →
+          land_on t (pick b (on_name symbol a (name_at file t.strings a.name)) (entry.Refused 1)) ≡ land.Refused k →
+          answer_of file t symbol addr p room (is (data_from file a)) ≡ refusing k
+      unfolding answer_of say_of spell
       no_cover true c h = no_name c (name_at file t.strings a.name) refl h
       no_cover false c h = rw c (ap refusing (same 1 h))
 
     no-info :
-        (r : InfoRead) → landOn t (onInfo file t symbol addr r) ≡ land.Refused k →
-        answer_of file t symbol addr p room (asData file r) ≡ refusing k
-    unfolding onInfo answer_of
-    no-info (info.Is a) h = no_cover a (coveredBy addr symbol a.size) refl h
+        (r : InfoRead) → land_on t (on_info file t symbol addr r) ≡ land.Refused k →
+        answer_of file t symbol addr p room (as_data file r) ≡ refusing k
+    unfolding on_info answer_of
+    no-info (info.Is a) h = no_cover a (covered_by addr symbol a.size) refl h
     no-info info.Unread h = ap refusing (same 5 h)
 
   no-entry :
-      (t : Tables) → Within file t → (r : Found) → landFound file t addr r ≡ land.Refused k →
-      afterFound file t addr p room r ≡ refusing k
-  unfolding landFound entry_at afterFound answerAt data_of
-  no-entry t w (at.At i) h = no-info t w (symbol_at file t i) (infoAt file t i) h
+      (t : Tables) → Within file t → (r : Found) → land_found file t addr r ≡ land.Refused k →
+      after_found file t addr p room r ≡ refusing k
+  unfolding land_found entry_at after_found answer_at data_of
+  no-entry t w (at.At i) h = no-info t w (symbol_at file t i) (info_at file t i) h
   no-entry t w at.Unknown h = ap refusing (same 1 h)
 
   no-tables :
-      (r : Opened) → opened_of file ≡ r → landOpened file addr r ≡ land.Refused k →
-      afterOpened file addr p room r ≡ refusing k
-  unfolding landOpened afterOpened
-  no-tables (opened.Is t) o h = no-entry t (tables-within file t o) (findOf file t addr) h
+      (r : Opened) → opened_of file ≡ r → land_opened file addr r ≡ land.Refused k →
+      after_opened file addr p room r ≡ refusing k
+  unfolding land_opened after_opened
+  no-tables (opened.Is t) o h = no-entry t (tables-within file t o) (find_of file t addr) h
   no-tables (opened.Refused n) o h = ap refusing (same n h)
 
 module _ (file : List ℕ) (addr : Address) where
   pub not-landed :
-      (n : ℕ) → landingOf file addr ≡ land.Refused n → (o : Options) (room : ℕ) → lookupOf file addr o room ≡ refusing n
-  unfolding landingOf lookupOf
+      (n : ℕ) → landing_of file addr ≡ land.Refused n → (o : Options) (room : ℕ) → lookup_of file addr o room ≡ refusing n
+  unfolding landing_of lookup_of
   not-landed n h o room = no-tables file addr n o room (opened_of file) refl h

@@ -16,16 +16,16 @@ use Rattle.resolver.specs.declared.sites.CallRead.TheVariants as call
 use Rattle.resolver.specs.declared.rising.Risen.TheVariants as risen
 use Rattle.resolver.specs.Stages.{record_of, place_in, call_at}
 use Rattle.resolver.specs.Rows.{
-  numbersOf,
-  flatFrames,
-  framesFrom,
+  numbers_of,
+  flat_frames,
+  frames_from,
   PutsRow,
   lifted,
   no,
-  thenLift,
+  then_lift,
   lift,
-  liftedFrames,
-  liftAll,
+  lifted_frames,
+  lift_all,
   Rises,
 }
 use Rattle.resolver.proofs.Frames.{from_first, from-none}
@@ -74,16 +74,16 @@ puts-row xs k name p h =
     let s = seven xs (7 * k) name.place name.len p.dir.place p.dir.len p.file.place p.file.len
     p.line.0 in
     record {
-      front = rw s (run-front xs (numbersOf (record_of name p)) (7 * k) h);
-      kept = rw s (length-sets xs (7 * k) (numbersOf (record_of name p)));
+      front = rw s (run-front xs (numbers_of (record_of name p)) (7 * k) h);
+      kept = rw s (length-sets xs (7 * k) (numbers_of (record_of name p)));
     }
 
-flat-snoc : (fs : List Frame) (f : Frame) → flatFrames (fs ++ f ∷ []) ≡ flatFrames fs ++ numbersOf f
-unfolding flatFrames
+flat-snoc : (fs : List Frame) (f : Frame) → flat_frames (fs ++ f ∷ []) ≡ flat_frames fs ++ numbers_of f
+unfolding flat_frames
 flat-snoc [] f = refl
 flat-snoc (g ∷ fs) f =
-    ap (λ (l : List ℕ). numbersOf g ++ l) (flat-snoc fs f)
-    ∙ sym (append_assoc (numbersOf g) (flatFrames fs) (numbersOf f))
+    ap (λ (l : List ℕ). numbers_of g ++ l) (flat-snoc fs f)
+    ∙ sym (append_assoc (numbers_of g) (flat_frames fs) (numbers_of f))
 
 -- ---- all of them
 
@@ -95,11 +95,11 @@ module _ (file : List ℕ) (t : Tables) (frames : List ℕ) (count : ℕ) (under
     pub high : k ≤ count
     pub made : List Frame
     pub many : length made ≡ k - 2
-    pub front : take (7 * (k - 2)) out ≡ flatFrames made
-    pub same : liftAll file t frames count under row ≡ lift file t row made name (framesFrom k (count - k) frames)
+    pub front : take (7 * (k - 2)) out ≡ flat_frames made
+    pub same : lift_all file t frames count under row ≡ lift file t row made name (frames_from k (count - k) frames)
 
   pub rising-start : 2 ≤ count → Rising entry under 2
-  unfolding flatFrames
+  unfolding flat_frames
   rising-start l = record {
     kept = refl;
     low = omega arith;
@@ -111,17 +111,17 @@ module _ (file : List ℕ) (t : Tables) (frames : List ℕ) (count : ℕ) (under
   }
 
   refuses :
-      (exit : List ℕ) (n : ℕ) → length exit ≡ length entry → liftAll file t frames count under row ≡ no n →
+      (exit : List ℕ) (n : ℕ) → length exit ≡ length entry → lift_all file t frames count under row ≡ no n →
       Rises file t frames count under row entry exit (risen.Refused n)
-  unfolding liftedFrames flatFrames
+  unfolding lifted_frames flat_frames
   refuses exit n k e = record { says = rw e refl; records = rw e refl; kept = k }
 
   module _ (out : List ℕ) (name : Text) (k : ℕ) (R : Rising out name k) where
     -- one more record, after those that are there
     module _ (p : Place) (exit : List ℕ) (W : PutsRow out (k - 2) name p exit) where
-      more : take (7 * (k - 2) + 7) exit ≡ flatFrames (R.made ++ record_of name p ∷ [])
+      more : take (7 * (k - 2) + 7) exit ≡ flat_frames (R.made ++ record_of name p ∷ [])
       more =
-          W.front ∙ ap (λ (l : List ℕ). l ++ numbersOf (record_of name p)) R.front
+          W.front ∙ ap (λ (l : List ℕ). l ++ numbers_of (record_of name p)) R.front
           ∙ sym (flat-snoc R.made (record_of name p))
 
       longer : length (R.made ++ record_of name p ∷ []) ≡ k - 2 + 1
@@ -129,18 +129,18 @@ module _ (file : List ℕ) (t : Tables) (frames : List ℕ) (count : ℕ) (under
 
     -- a frame ahead
     module _ (l : k < count) (x : CallRead) (X : x ≡ call_at file t (frame_at k frames)) where
-      ahead : liftAll file t frames count under row
-          ≡ thenLift
+      ahead : lift_all file t frames count under row
+          ≡ then_lift
           (λ g. lift file t row (R.made ++ record_of name (place_in g) ∷ []) g.name
-          (framesFrom (k + 1) (count - k - 1) frames)) x
+          (frames_from (k + 1) (count - k - 1) frames)) x
       unfolding lift
       ahead =
           R.same
           ∙ ap (lift file t row R.made name) (from_first k (count - k) frames (omega arith))
           ∙ ap
-          (thenLift
+          (then_lift
           (λ g. lift file t row (R.made ++ record_of name (place_in g) ∷ []) g.name
-          (framesFrom (k + 1) (count - k - 1) frames))) (sym X)
+          (frames_from (k + 1) (count - k - 1) frames))) (sym X)
 
       pub rises-refused :
           (n : ℕ) → x ≡ call.Refused n → Rises file t frames count under row entry out (risen.Refused n)
@@ -148,9 +148,9 @@ module _ (file : List ℕ) (t : Tables) (frames : List ℕ) (count : ℕ) (under
           refuses out n R.kept
           (ahead
           ∙ ap
-          (thenLift
+          (then_lift
           (λ g. lift file t row (R.made ++ record_of name (place_in g) ∷ []) g.name
-          (framesFrom (k + 1) (count - k - 1) frames))) e)
+          (frames_from (k + 1) (count - k - 1) frames))) e)
 
       pub rising-next :
           (g : Frame) → x ≡ call.Is g → (p : Place) → p ≡ place_in g → (exit : List ℕ) →
@@ -168,26 +168,26 @@ module _ (file : List ℕ) (t : Tables) (frames : List ℕ) (count : ℕ) (under
             same =
                 ahead
                 ∙ ap
-                (thenLift
+                (then_lift
                 (λ g. lift file t row (R.made ++ record_of name (place_in g) ∷ []) g.name
-                (framesFrom (k + 1) (count - k - 1) frames))) e
+                (frames_from (k + 1) (count - k - 1) frames))) e
                 ∙ ap
                 (λ (q : Place). lift file t row (R.made ++ record_of name q ∷ []) g.name
-                (framesFrom (k + 1) (count - k - 1) frames)) (sym P)
+                (frames_from (k + 1) (count - k - 1) frames)) (sym P)
                 ∙ ap
                 (λ (j : ℕ). lift file t row (R.made ++ record_of name p ∷ []) g.name
-                (framesFrom (k + 1) j frames)) n;
+                (frames_from (k + 1) j frames)) n;
           }
 
     -- none ahead: the last gets the row's position
     pub rises-all :
         count ≤ k → (exit : List ℕ) → PutsRow out (count - 2) name row exit →
         Rises file t frames count under row entry exit risen.All
-    unfolding lift liftedFrames
+    unfolding lift lifted_frames
     rises-all l exit W =
         let c : count ≡ k = omega (arith, R.high) in
         let U : PutsRow out (k - 2) name row exit = subst (λ (j : ℕ). PutsRow out (j - 2) name row exit) c W in
-        let s : liftAll file t frames count under row ≡ lifted (R.made ++ record_of name row ∷ []) =
+        let s : lift_all file t frames count under row ≡ lifted (R.made ++ record_of name row ∷ []) =
         R.same ∙ ap (lift file t row R.made name) (from-none k (count - k) frames (omega arith)) in
         let m : 7 * length (R.made ++ record_of name row ∷ []) ≡ 7 * (k - 2) + 7 = omega (arith, longer row exit U) in
         record { says = rw s refl; records = rw (s, m) (more row exit U); kept = W.kept ∙ R.kept }

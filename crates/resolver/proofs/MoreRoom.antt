@@ -14,7 +14,7 @@ use Rattle.linetab.specs.declared.RowFound.{RowFound}
 use Rattle.linetab.specs.declared.RowFound.TheVariants as found
 use Rattle.linetab.specs.declared.LineRead.{LineRead}
 use Rattle.linetab.specs.declared.LineRead.TheVariants as line
-use Rattle.linetab.specs.Rows.{lineRow}
+use Rattle.linetab.specs.Rows.{line_row}
 use Rattle.inline.specs.Block.{Block, listed, refused}
 use Rattle.inline.proofs.MoreRoom.{block_more}
 use Rattle.parser.specs.declared.Tables.{Tables}
@@ -23,14 +23,14 @@ use Rattle.parser.specs.declared.Opened.TheVariants as opened
 use Rattle.parser.specs.declared.Found.{Found}
 use Rattle.parser.specs.declared.Found.TheVariants as place
 use Rattle.parser.specs.Header.{opened_of}
-use Rattle.parser.specs.Search.{findOf}
-use Rattle.parser.specs.Entries.{symbol_at, coveredBy}
+use Rattle.parser.specs.Search.{find_of}
+use Rattle.parser.specs.Entries.{symbol_at, covered_by}
 use Rattle.resolver.specs.Data.{Piece, Data, DataRead, is, unread, data_of}
-use Rattle.resolver.specs.Book.{Book, bookOf, readsName}
-use Rattle.resolver.specs.Heard.{ask, Heard, fault, afterLine, hearRow, after_block, hearFrames, hear}
-use Rattle.resolver.specs.Says.{refuses, afterHeard, sayMore, sayOf}
+use Rattle.resolver.specs.Book.{Book, book_of, reads_name}
+use Rattle.resolver.specs.Heard.{ask, Heard, fault, after_line, hear_row, after_block, hear_frames, hear}
+use Rattle.resolver.specs.Says.{refuses, after_heard, say_more, say_of}
 use Rattle.resolver.specs.Spell.{refusing, spell}
-use Rattle.resolver.specs.Lookup.{answer_of, answerAt, afterFound, afterOpened, lookupOf}
+use Rattle.resolver.specs.Lookup.{answer_of, answer_at, after_found, after_opened, lookup_of}
 
 -- a refusal of its own, or the same
 abbrev Or : {A : Type 0} → A → A → A → Type 0
@@ -50,18 +50,18 @@ map-or f out x v (inr e) = inr (ap f e)
 module _ (room more : ℕ) (l : room ≤ more) (symbol addr : Address) (inlining : Bool) where
   -- a line block, with `few` and `many` for what follows it
   module _ (few many : RowFound → Heard) (h : (r : RowFound) → Or (fault 14) (few r) (many r)) where
-    line-more : (x : LineRead) → Or (fault 14) (afterLine few x) (afterLine many x)
+    line-more : (x : LineRead) → Or (fault 14) (after_line few x) (after_line many x)
     line-more (line.Row r) = h (found.Row r)
     line-more line.Nothing = h found.Nothing
     line-more line.Short = inr refl
     line-more line.Wide = inr refl
 
     row_more : (p : Piece) (r : RowFound) →
-        Or (fault 14) (hearRow (ask symbol addr room inlining) p few r) (hearRow (ask symbol addr more inlining) p many r)
-    unfolding hearRow
+        Or (fault 14) (hear_row (ask symbol addr room inlining) p few r) (hear_row (ask symbol addr more inlining) p many r)
+    unfolding hear_row
     row_more p (found.Row r) = h (found.Row r)
     row_more p found.Nothing =
-        pick-or (fault 14) (eqb p.kind 1) _ _ _ _ (line-more (lineRow p.bytes symbol addr)) (h found.Nothing)
+        pick-or (fault 14) (eqb p.kind 1) _ _ _ _ (line-more (line_row p.bytes symbol addr)) (h found.Nothing)
 
   -- an inline block
   module _ (few many : List InlineFrame → Heard) (h : (fs : List InlineFrame) → Or (fault 14) (few fs) (many fs)) where
@@ -76,9 +76,9 @@ module _ (room more : ℕ) (l : room ≤ more) (symbol addr : Address) (inlining
 
     frames-more : (p : Piece) (fs : List InlineFrame) →
         Or (fault 14)
-        (hearFrames (ask symbol addr room inlining) p few fs)
-        (hearFrames (ask symbol addr more inlining) p many fs)
-    unfolding hearFrames
+        (hear_frames (ask symbol addr room inlining) p few fs)
+        (hear_frames (ask symbol addr more inlining) p many fs)
+    unfolding hear_frames
     frames-more p (f ∷ fs) = h (f ∷ fs)
     frames-more p [] =
         pick-or (fault 14) (eqb p.kind 2) _ _ _ _
@@ -93,8 +93,8 @@ module _ (room more : ℕ) (l : room ≤ more) (symbol addr : Address) (inlining
   hear-more [] r fs = inr refl
   hear-more (p ∷ ps) r fs =
       row_more
-      (λ r. hearFrames (ask symbol addr room inlining) p (λ fs. hear (ask symbol addr room inlining) ps r fs) fs)
-      (λ r. hearFrames (ask symbol addr more inlining) p (λ fs. hear (ask symbol addr more inlining) ps r fs) fs)
+      (λ r. hear_frames (ask symbol addr room inlining) p (λ fs. hear (ask symbol addr room inlining) ps r fs) fs)
+      (λ r. hear_frames (ask symbol addr more inlining) p (λ fs. hear (ask symbol addr more inlining) ps r fs) fs)
       (λ r. frames-more
       (λ fs. hear (ask symbol addr room inlining) ps r fs)
       (λ fs. hear (ask symbol addr more inlining) ps r fs)
@@ -107,41 +107,41 @@ module _ (room more : ℕ) (l : room ≤ more) (symbol addr : Address) (inlining
 module _ (room more : ℕ) (l : room ≤ more) (addr : Address) (o : Options) where
   say-by : (b : Book) (symbol : Address) (d : Data) (code : Bool) →
       Or (refuses 14)
-      (sayMore b d (ask symbol addr room o.inlining) code)
-      (sayMore b d (ask symbol addr more o.inlining) code)
-  unfolding sayMore afterHeard
+      (say_more b d (ask symbol addr room o.inlining) code)
+      (say_more b d (ask symbol addr more o.inlining) code)
+  unfolding say_more after_heard
   say-by b symbol d true =
-      map-or (afterHeard b d) (fault 14) _ _ (hear-more room more l symbol addr o.inlining d.items found.Nothing [])
+      map-or (after_heard b d) (fault 14) _ _ (hear-more room more l symbol addr o.inlining d.items found.Nothing [])
   say-by b symbol d false = inr refl
 
   say-more : (b : Book) (symbol : Address) (d : Data) →
-      Or (refuses 14) (sayOf b symbol d addr o room) (sayOf b symbol d addr o more)
-  unfolding sayOf
+      Or (refuses 14) (say_of b symbol d addr o room) (say_of b symbol d addr o more)
+  unfolding say_of
   say-more b symbol d =
-      pick-or (refuses 14) (coveredBy addr symbol d.size) _ _ _ _
-      (pick-or (refuses 14) (readsName b d.name) _ _ _ _ (say-by b symbol d o.code_info) (inr refl))
+      pick-or (refuses 14) (covered_by addr symbol d.size) _ _ _ _
+      (pick-or (refuses 14) (reads_name b d.name) _ _ _ _ (say-by b symbol d o.code_info) (inr refl))
       (inr refl)
 
   answer-more : (file : List ℕ) (t : Tables) (symbol : Address) (d : DataRead) →
       Or (refusing 14) (answer_of file t symbol addr o room d) (answer_of file t symbol addr o more d)
   unfolding answer_of spell
   answer-more file t symbol (is d) =
-      map-or (spell (bookOf file t) t.strings.place symbol) (refuses 14) _ _ (say-more (bookOf file t) symbol d)
+      map-or (spell (book_of file t) t.strings.place symbol) (refuses 14) _ _ (say-more (book_of file t) symbol d)
   answer-more file t symbol unread = inr refl
 
   found-more : (file : List ℕ) (t : Tables) (x : Found) →
-      Or (refusing 14) (afterFound file t addr o room x) (afterFound file t addr o more x)
-  unfolding afterFound answerAt
+      Or (refusing 14) (after_found file t addr o room x) (after_found file t addr o more x)
+  unfolding after_found answer_at
   found-more file t (place.At i) = answer-more file t (symbol_at file t i) (data_of file t i)
   found-more file t place.Unknown = inr refl
 
   opened-more : (file : List ℕ) (x : Opened) →
-      Or (refusing 14) (afterOpened file addr o room x) (afterOpened file addr o more x)
-  unfolding afterOpened
-  opened-more file (opened.Is t) = found-more file t (findOf file t addr)
+      Or (refusing 14) (after_opened file addr o room x) (after_opened file addr o more x)
+  unfolding after_opened
+  opened-more file (opened.Is t) = found-more file t (find_of file t addr)
   opened-more file (opened.Refused n) = inr refl
 
   pub lookup-more : (file : List ℕ) →
-      (lookupOf file addr o room ≡ refusing 14) ⊎ (lookupOf file addr o room ≡ lookupOf file addr o more)
-  unfolding lookupOf
+      (lookup_of file addr o room ≡ refusing 14) ⊎ (lookup_of file addr o room ≡ lookup_of file addr o more)
+  unfolding lookup_of
   lookup-more file = opened-more file (opened_of file)

@@ -10,7 +10,7 @@ use lib.Dec.{leb, eqb}
 use lib.ListN.{length}
 use native.Mathlib.Omega.{arith}
 use Rattle.reads.specs.Pick.{pick}
-use Rattle.reads.specs.Answers.{u16At, u32_at}
+use Rattle.reads.specs.Answers.{u16_at, u32_at}
 use Rattle.reads.specs.declared.Read16.{Read16}
 use Rattle.reads.specs.declared.Read16.TheVariants as r16
 use Rattle.reads.specs.declared.Read32.{Read32}
@@ -24,15 +24,15 @@ use Rattle.parser.specs.declared.Opened.{Opened}
 use Rattle.parser.specs.declared.Opened.TheVariants as opened
 use Rattle.parser.specs.declared.Found.TheVariants as place
 use Rattle.parser.specs.Numbers.{num_at}
-use Rattle.parser.specs.Header.{numbersOf, fileCountPlace, filesPlace, tablesWith, withFiles, tables_of}
-use Rattle.parser.specs.Header.{afterVersion, onVersion, onMagic, opened_of}
-use Rattle.parser.specs.Search.{findOf, Nowhere}
-use Rattle.parser.specs.Entries.{symbol_at, coveredBy}
+use Rattle.parser.specs.Header.{numbers_of, file_count_place, files_place, tables_with, with_files, tables_of}
+use Rattle.parser.specs.Header.{after_version, on_version, on_magic, opened_of}
+use Rattle.parser.specs.Search.{find_of, Nowhere}
+use Rattle.parser.specs.Entries.{symbol_at, covered_by}
 use Rattle.inline.proofs.Numbers.{never}
 use Rattle.resolver.specs.Data.{Data, unread, is, data_of}
-use Rattle.resolver.specs.Book.{Book, bookOf, readsName}
+use Rattle.resolver.specs.Book.{Book, book_of, reads_name}
 use Rattle.resolver.specs.Heard.{ask}
-use Rattle.resolver.specs.Lookup.{lookupOf}
+use Rattle.resolver.specs.Lookup.{lookup_of}
 use Rattle.resolver.proofs.Causes.{Unplaced, unplaced-site, site-no, uncalled-calls, calls-no}
 use Rattle.resolver.proofs.FirstBlocks.{heard-no, heard-off}
 use Rattle.resolver.proofs.Refusals.{Asked, Unsaid, uncovered, unnamed, unheard, unplaced, first-unnamed}
@@ -58,28 +58,28 @@ module _ (file : List ℕ) where
   two : Opens (opened.Refused 2)
   two = refused-opens 2 (omega arith) (omega arith)
 
-  files-opens : (n : ℕ) → Opens (withFiles file (numbersOf file) n)
-  unfolding withFiles
+  files-opens : (n : ℕ) → Opens (with_files file (numbers_of file) n)
+  unfolding with_files
   files-opens n =
-      let h = numbersOf file in
-      pick-opens (leb (filesPlace h + n * 8) (length file)) _ _
-      (pick-opens (leb (h.strings_offset + h.strings_size) (length file)) _ _ (is-opens (tablesWith h n)) two)
+      let h = numbers_of file in
+      pick-opens (leb (files_place h + n * 8) (length file)) _ _
+      (pick-opens (leb (h.strings_offset + h.strings_size) (length file)) _ _ (is-opens (tables_with h n)) two)
       two
 
-  version-opens : (r : Read16) → Opens (onVersion file r)
-  unfolding onVersion afterVersion tables_of
+  version-opens : (r : Read16) → Opens (on_version file r)
+  unfolding on_version after_version tables_of
   version-opens (r16.Value v) =
       pick-opens (eqb v 1) _ _
       (pick-opens (leb 48 (length file)) _ _
-      (pick-opens (leb (filesPlace (numbersOf file)) (length file)) _ _
-      (files-opens (num_at 4 file (fileCountPlace (numbersOf file)))) two) two)
+      (pick-opens (leb (files_place (numbers_of file)) (length file)) _ _
+      (files-opens (num_at 4 file (file_count_place (numbers_of file)))) two) two)
       (refused-opens 4 (omega arith) (omega arith))
   version-opens r16.Unread = two
 
-  magic-opens : (r : Read32) → Opens (onMagic file r)
-  unfolding onMagic
+  magic-opens : (r : Read32) → Opens (on_magic file r)
+  unfolding on_magic
   magic-opens (r32.Value m) =
-      pick-opens (eqb m 0x4753594d) _ _ (version-opens (u16At file 4)) (refused-opens 3 (omega arith) (omega arith))
+      pick-opens (eqb m 0x4753594d) _ _ (version-opens (u16_at file 4)) (refused-opens 3 (omega arith) (omega arith))
   magic-opens r32.Unread = two
 
   pub opened-no : (n : ℕ) → opened_of file ≡ opened.Refused n → (2 ≤ n) × (n ≤ 4)
@@ -126,12 +126,12 @@ module _ (b : Book) (symbol : Address) (d : Data) (addr : Address) (o : Options)
 
 module _ (file : List ℕ) (addr : Address) (o : Options) (room : ℕ) where
   -- a bound on refusals is one on numbers
-  at_most : (k : ℕ) → ((n : ℕ) → Met file addr o room n → n ≤ k) → (lookupOf file addr o room).answer.number ≤ k
+  at_most : (k : ℕ) → ((n : ℕ) → Met file addr o room n → n ≤ k) → (lookup_of file addr o room).answer.number ≤ k
   at_most k h =
       ⊎_elim
-      (λ (l : 0 < (lookupOf file addr o room).answer.number). h _ (lookup-met file addr o room _ refl l))
-      (λ (l : (lookupOf file addr o room).answer.number ≤ 0). omega arith)
-      (lt-or-ge 0 (lookupOf file addr o room).answer.number)
+      (λ (l : 0 < (lookup_of file addr o room).answer.number). h _ (lookup-met file addr o room _ refl l))
+      (λ (l : (lookup_of file addr o room).answer.number ≤ 0). omega arith)
+      (lt-or-ge 0 (lookup_of file addr o room).answer.number)
 
   pub met-no : (n : ℕ) → Met file addr o room n → (1 ≤ n) × (n ≤ 14)
   met-no n (unopened e) = let k = opened-no file n e in (omega (arith, k.0), omega (arith, k.1))
@@ -141,35 +141,35 @@ module _ (file : List ℕ) (addr : Address) (o : Options) (room : ℕ) where
       ⊎_elim
       (λ (q : n ≡ 1). (omega arith, omega arith))
       (λ (l : (6 ≤ n) × (n ≤ 14)). (omega (arith, l.0), l.1))
-      (unsaid-no (bookOf file t) (symbol_at file t i) d addr o room n u)
+      (unsaid-no (book_of file t) (symbol_at file t i) d addr o room n u)
 
-  pub number_bound : (lookupOf file addr o room).answer.number ≤ 14
+  pub number_bound : (lookup_of file addr o room).answer.number ≤ 14
   number_bound = at_most 14 (λ n m. (met-no n m).1)
 
   -- without code info only the symbol's own rules refuse
-  pub plain-numbers : o.code_info ≡ false → (lookupOf file addr o room).answer.number ≤ 6
+  pub plain-numbers : o.code_info ≡ false → (lookup_of file addr o room).answer.number ≤ 6
   plain-numbers c = at_most 6 go
     where
       go : (n : ℕ) → Met file addr o room n → n ≤ 6
       go n (unopened e) = let k = opened-no file n e in omega (arith, k.1)
       go n (nowhere t e w q) = omega arith
       go n (no-data t i e f k q) = omega arith
-      go n (unsaid t i d e f k u) = unsaid-plain (bookOf file t) (symbol_at file t i) d addr o room n c u
+      go n (unsaid t i d e f k u) = unsaid-plain (book_of file t) (symbol_at file t i) d addr o room n c u
 
   -- without inlining no inline block refuses
-  pub row-numbers : o.inlining ≡ false → (lookupOf file addr o room).answer.number ≤ 9
+  pub row-numbers : o.inlining ≡ false → (lookup_of file addr o room).answer.number ≤ 9
   row-numbers c = at_most 9 go
     where
       go : (n : ℕ) → Met file addr o room n → n ≤ 9
       go n (unopened e) = let k = opened-no file n e in omega (arith, k.1)
       go n (nowhere t e w q) = omega arith
       go n (no-data t i e f k q) = omega arith
-      go n (unsaid t i d e f k u) = unsaid-off (bookOf file t) (symbol_at file t i) d addr o room n c u
+      go n (unsaid t i d e f k u) = unsaid-off (book_of file t) (symbol_at file t i) d addr o room n c u
 
   -- ---- single numbers; `met-lookup` has the other directions
 
   -- 2, 3 and 4 are those of opening
-  pub number-opening : (n : ℕ) → 2 ≤ n → n ≤ 4 → (lookupOf file addr o room).answer.number ≡ n →
+  pub number-opening : (n : ℕ) → 2 ≤ n → n ≤ 4 → (lookup_of file addr o room).answer.number ≡ n →
       opened_of file ≡ opened.Refused n
   number-opening n l h p = go (lookup-met file addr o room n p (omega arith))
     where
@@ -181,45 +181,45 @@ module _ (file : List ℕ) (addr : Address) (o : Options) (room : ℕ) where
           ⊎_elim
           (λ (q : n ≡ 1). absurd (omega arith))
           (λ (l : (6 ≤ n) × (n ≤ 14)). absurd (omega (arith, l.0)))
-          (unsaid-no (bookOf file t) (symbol_at file t i) d addr o room n u)
+          (unsaid-no (book_of file t) (symbol_at file t i) d addr o room n u)
 
   module _ (t : Tables) (e : opened_of file ≡ opened.Is t) where
     -- 1: the address is nowhere, or the entry's size doesn't reach it
-    pub number-unknown : (lookupOf file addr o room).answer.number ≡ 1 →
+    pub number-unknown : (lookup_of file addr o room).answer.number ≡ 1 →
         Nowhere file t addr
-        ⊎ ((i : ℕ) × (d : Data) × (findOf file t addr ≡ place.At i) × (data_of file t i ≡ is d)
-        × (coveredBy addr (symbol_at file t i) d.size ≡ false))
+        ⊎ ((i : ℕ) × (d : Data) × (find_of file t addr ≡ place.At i) × (data_of file t i ≡ is d)
+        × (covered_by addr (symbol_at file t i) d.size ≡ false))
     number-unknown p = go (lookup-met file addr o room 1 p (omega arith))
       where
         go : Met file addr o room 1 →
             Nowhere file t addr
-            ⊎ ((i : ℕ) × (d : Data) × (findOf file t addr ≡ place.At i) × (data_of file t i ≡ is d)
-            × (coveredBy addr (symbol_at file t i) d.size ≡ false))
+            ⊎ ((i : ℕ) × (d : Data) × (find_of file t addr ≡ place.At i) × (data_of file t i ≡ is d)
+            × (covered_by addr (symbol_at file t i) d.size ≡ false))
         go (unopened x) = let k = opened-no file 1 x in absurd (omega (arith, k.0))
         go (nowhere s x w q) = let h : s ≡ t = cc in inl (rw (← h) w)
         go (no-data s i x f k q) = absurd (omega arith)
         go (unsaid s i d x f k u) = let h : t ≡ s = cc in rw h (inr (i, d, f, k, here u))
           where
-            here : Unsaid (bookOf file s) (symbol_at file s i) d addr o room 1 →
-                coveredBy addr (symbol_at file s i) d.size ≡ false
+            here : Unsaid (book_of file s) (symbol_at file s i) d addr o room 1 →
+                covered_by addr (symbol_at file s i) d.size ≡ false
             here (uncovered c q) = c
             here (unnamed c m q) = absurd (omega arith)
             here (unheard A h) =
                 let k = heard-no (ask (symbol_at file s i) addr room o.inlining) d.items found.Nothing 1 h in
                 absurd (omega (arith, k.0))
             here (unplaced r fs A h u) =
-                let k = place-no (bookOf file s) r.file_idx.0 1 u in absurd (omega (arith, k.0))
+                let k = place-no (book_of file s) r.file_idx.0 1 u in absurd (omega (arith, k.0))
             here (first-unnamed r f fs s A h p m q) = absurd (omega arith)
             here (uncalled r f fs s' A h p m u) =
-                let k = calls-no (bookOf file s) fs 1 (uncalled-calls (bookOf file s) fs 1 u) in
+                let k = calls-no (book_of file s) fs 1 (uncalled-calls (book_of file s) fs 1 u) in
                 absurd (omega (arith, k.0))
 
     -- 5: the entry's information doesn't read
-    pub number-unread : (lookupOf file addr o room).answer.number ≡ 5 →
-        (i : ℕ) × (findOf file t addr ≡ place.At i) × (data_of file t i ≡ unread)
+    pub number-unread : (lookup_of file addr o room).answer.number ≡ 5 →
+        (i : ℕ) × (find_of file t addr ≡ place.At i) × (data_of file t i ≡ unread)
     number-unread p = go (lookup-met file addr o room 5 p (omega arith))
       where
-        go : Met file addr o room 5 → (i : ℕ) × (findOf file t addr ≡ place.At i) × (data_of file t i ≡ unread)
+        go : Met file addr o room 5 → (i : ℕ) × (find_of file t addr ≡ place.At i) × (data_of file t i ≡ unread)
         go (unopened x) = let k = opened-no file 5 x in absurd (omega (arith, k.1))
         go (nowhere s x w q) = absurd (omega arith)
         go (no-data s i x f k q) = let h : t ≡ s = cc in rw h (i, f, k)
@@ -227,28 +227,28 @@ module _ (file : List ℕ) (addr : Address) (o : Options) (room : ℕ) where
             ⊎_elim
             (λ (q : 5 ≡ 1). absurd (omega arith))
             (λ (l : (6 ≤ 5) × (5 ≤ 14)). absurd (omega (arith, l.0)))
-            (unsaid-no (bookOf file s) (symbol_at file s i) d addr o room 5 u)
+            (unsaid-no (book_of file s) (symbol_at file s i) d addr o room 5 u)
 
     -- 6 without code info: the address is covered, and the symbol's name doesn't read
-    pub number-unnamed : o.code_info ≡ false → (lookupOf file addr o room).answer.number ≡ 6 →
-        (i : ℕ) × (d : Data) × (findOf file t addr ≡ place.At i) × (data_of file t i ≡ is d)
-        × (coveredBy addr (symbol_at file t i) d.size ≡ true) × (readsName (bookOf file t) d.name ≡ false)
+    pub number-unnamed : o.code_info ≡ false → (lookup_of file addr o room).answer.number ≡ 6 →
+        (i : ℕ) × (d : Data) × (find_of file t addr ≡ place.At i) × (data_of file t i ≡ is d)
+        × (covered_by addr (symbol_at file t i) d.size ≡ true) × (reads_name (book_of file t) d.name ≡ false)
     number-unnamed c p = go (lookup-met file addr o room 6 p (omega arith))
       where
         go : Met file addr o room 6 →
-            (i : ℕ) × (d : Data) × (findOf file t addr ≡ place.At i) × (data_of file t i ≡ is d)
-            × (coveredBy addr (symbol_at file t i) d.size ≡ true) × (readsName (bookOf file t) d.name ≡ false)
+            (i : ℕ) × (d : Data) × (find_of file t addr ≡ place.At i) × (data_of file t i ≡ is d)
+            × (covered_by addr (symbol_at file t i) d.size ≡ true) × (reads_name (book_of file t) d.name ≡ false)
         go (unopened x) = let k = opened-no file 6 x in absurd (omega (arith, k.1))
         go (nowhere s x w q) = absurd (omega arith)
         go (no-data s i x f k q) = absurd (omega arith)
         go (unsaid s i d x f k u) = let h : t ≡ s = cc in let n = here u in rw h (i, d, f, k, n.0, n.1)
           where
-            asked : Asked (bookOf file s) (symbol_at file s i) d addr o →
-                (coveredBy addr (symbol_at file s i) d.size ≡ true) × (readsName (bookOf file s) d.name ≡ false)
+            asked : Asked (book_of file s) (symbol_at file s i) d addr o →
+                (covered_by addr (symbol_at file s i) d.size ≡ true) × (reads_name (book_of file s) d.name ≡ false)
             asked A = let a = A.code in never (let z : ◌≡◌ {A = ℕ} 0 1 = cc in z)
 
-            here : Unsaid (bookOf file s) (symbol_at file s i) d addr o room 6 →
-                (coveredBy addr (symbol_at file s i) d.size ≡ true) × (readsName (bookOf file s) d.name ≡ false)
+            here : Unsaid (book_of file s) (symbol_at file s i) d addr o room 6 →
+                (covered_by addr (symbol_at file s i) d.size ≡ true) × (reads_name (book_of file s) d.name ≡ false)
             here (uncovered c q) = absurd (omega arith)
             here (unnamed c m q) = (c, m)
             here (unheard A h) = asked A

@@ -8,43 +8,43 @@ use Rattle.types.specs.declared.LineNumber.{LineNumber}
 use Rattle.types.specs.declared.Text.{Text}
 use Rattle.types.specs.declared.InlineFrame.{InlineFrame}
 use Rattle.strtab.specs.declared.TextRead.TheVariants as text
-use Rattle.strtab.specs.Strings.{textAt, name_at}
+use Rattle.strtab.specs.Strings.{text_at, name_at}
 use Rattle.parser.specs.declared.Tables.{Tables}
 use Rattle.parser.specs.declared.FileInfo.{FileInfo}
 use Rattle.parser.specs.declared.FileRead.{FileRead}
 use Rattle.parser.specs.declared.FileRead.TheVariants as row
 use Rattle.parser.specs.Header.{Within}
-use Rattle.parser.specs.Entries.{fileAt}
+use Rattle.parser.specs.Entries.{file_at}
 use Rattle.resolver.specs.declared.Place.{Place}
 use Rattle.resolver.specs.declared.sites.PlaceRead.TheVariants as placed
 use Rattle.resolver.specs.declared.sites.CallRead.TheVariants as call
-use Rattle.resolver.specs.Book.{bookOf, nthFile}
-use Rattle.resolver.specs.Says.{siteIn, siteOf}
-use Rattle.resolver.specs.Stages.{record_of, placeAt, call_at}
+use Rattle.resolver.specs.Book.{book_of, nth_file}
+use Rattle.resolver.specs.Says.{site_in, site_of}
+use Rattle.resolver.specs.Stages.{record_of, place_at, call_at}
 use Rattle.resolver.proofs.Books.{file-in-book, text-is, text-unread, name-is, name-unread}
 
 module _ (file : List ℕ) (t : Tables) (w : Within file t) where
   module _ (index : FileIndex) (line : LineNumber) where
-    in-book : (r : FileRead) → fileAt file t index ≡ r → nthFile (bookOf file t).files index.0 ≡ r
+    in-book : (r : FileRead) → file_at file t index ≡ r → nth_file (book_of file t).files index.0 ≡ r
     in-book r e = sym (file-in-book file t w index) ∙ e
 
     -- no such file: 7
-    pub site-none : fileAt file t index ≡ row.Unread → placed.Refused 7 ≡ placeAt file t index.0 line.0
-    unfolding placeAt siteOf siteIn
+    pub site-none : file_at file t index ≡ row.Unread → placed.Refused 7 ≡ place_at file t index.0 line.0
+    unfolding place_at site_of site_in
     site-none e = rw (in-book row.Unread e)
 
-    module _ (r : FileInfo) (e : fileAt file t index ≡ row.Is r) where
+    module _ (r : FileInfo) (e : file_at file t index ≡ row.Is r) where
       -- its directory, then its file: 8
       pub site-no-dir :
-          textAt file t.strings r.directory ≡ text.Unread → placed.Refused 8 ≡ placeAt file t index.0 line.0
-      unfolding placeAt siteOf siteIn
+          text_at file t.strings r.directory ≡ text.Unread → placed.Refused 8 ≡ place_at file t index.0 line.0
+      unfolding place_at site_of site_in
       site-no-dir d = rw (in-book (row.Is r) e, text-unread file t w r.directory d)
 
-      module _ (dir : Text) (d : textAt file t.strings r.directory ≡ text.Is dir) where
+      module _ (dir : Text) (d : text_at file t.strings r.directory ≡ text.Is dir) where
         pub site-no-file :
-            textAt file t.strings r.filename ≡ text.Unread →
-            placed.Refused 8 ≡ placeAt file t index.0 line.0
-        unfolding placeAt siteOf siteIn
+            text_at file t.strings r.filename ≡ text.Unread →
+            placed.Refused 8 ≡ place_at file t index.0 line.0
+        unfolding place_at site_of site_in
         site-no-file f =
             rw (
               in-book (row.Is r) e,
@@ -53,9 +53,9 @@ module _ (file : List ℕ) (t : Tables) (w : Within file t) where
             )
 
         pub site-is :
-            (name : Text) → textAt file t.strings r.filename ≡ text.Is name →
-            placed.Is (record { dir = dir; file = name; line = line }) ≡ placeAt file t index.0 line.0
-        unfolding placeAt siteOf siteIn
+            (name : Text) → text_at file t.strings r.filename ≡ text.Is name →
+            placed.Is (record { dir = dir; file = name; line = line }) ≡ place_at file t index.0 line.0
+        unfolding place_at site_of site_in
         site-is name f =
             let p = text-is file t w r.directory dir d in
             let q = text-is file t w r.filename name f in
@@ -70,13 +70,13 @@ module _ (file : List ℕ) (t : Tables) (w : Within file t) where
     -- then the position of its call
     module _ (name : Text) (n : name_at file t.strings f.name ≡ text.Is name) where
       pub call-no-site :
-          (k : ℕ) → placed.Refused k ≡ placeAt file t f.call_file.0 f.call_line.0 →
+          (k : ℕ) → placed.Refused k ≡ place_at file t f.call_file.0 f.call_line.0 →
           call.Refused k ≡ call_at file t f
       unfolding call_at
       call-no-site k e = rw ((name-is file t w f.name name n).0, ← e)
 
       pub call-is :
-          (p : Place) → placed.Is p ≡ placeAt file t f.call_file.0 f.call_line.0 →
+          (p : Place) → placed.Is p ≡ place_at file t f.call_file.0 f.call_line.0 →
           call.Is (record_of name p) ≡ call_at file t f
       unfolding call_at
       call-is p e =

@@ -6,19 +6,19 @@ use mathlib.Core.List.{List, [], ◌∷◌, ◌++◌, map}
 use mathlib.Core.Path.{◌≡◌, refl, ap}
 use Rattle.resolver.specs.Says.{Site, Call, upper, raised}
 
-abbrev pub siteOfCall : Call → Site
-siteOfCall c = c.site
+abbrev pub site_of_call : Call → Site
+site_of_call c = c.site
 
-abbrev pub nameOfCall : Call → ℕ
-nameOfCall c = c.name
+abbrev pub name_of_call : Call → ℕ
+name_of_call c = c.name
 
 pub raised-sites : (row : Site) (cs : List Call) →
-    upper row cs ∷ map siteOfCall (raised row cs) ≡ map siteOfCall cs ++ row ∷ []
+    upper row cs ∷ map site_of_call (raised row cs) ≡ map site_of_call cs ++ row ∷ []
 unfolding raised
 raised-sites row [] = refl
 raised-sites row (c ∷ cs) = ap (λ (l : List Site). c.site ∷ l) (raised-sites row cs)
 
-pub raised-names : (row : Site) (cs : List Call) → map nameOfCall (raised row cs) ≡ map nameOfCall cs
+pub raised-names : (row : Site) (cs : List Call) → map name_of_call (raised row cs) ≡ map name_of_call cs
 unfolding raised
 raised-names row [] = refl
 raised-names row (c ∷ cs) = ap (λ (l : List ℕ). c.name ∷ l) (raised-names row cs)

@@ -23,23 +23,23 @@ use Rattle.resolver.specs.declared.sites.CallRead.TheVariants as call
 use Rattle.resolver.specs.declared.rising.Risen.{Risen}
 use Rattle.resolver.specs.declared.rising.Risen.TheVariants as risen
 use Rattle.resolver.specs.Spell.{Looked, refusing}
-use Rattle.resolver.specs.Stages.{record_of, place_in, call_at, answerWith}
+use Rattle.resolver.specs.Stages.{record_of, place_in, call_at, answer_with}
 use Rattle.resolver.specs.Rows.{
-  flatFrames,
-  framesFrom,
+  flat_frames,
+  frames_from,
   Lifted,
   lifted,
   no,
-  thenLift,
+  then_lift,
   lift,
-  asRisen,
-  liftedFrames,
-  liftAll,
+  as_risen,
+  lifted_frames,
+  lift_all,
   Rises,
-  afterLift,
-  afterFirst,
-  withLater,
-  withNamed,
+  after_lift,
+  after_first,
+  with_later,
+  with_named,
   Wrote,
 }
 use Rattle.resolver.proofs.Books.{never, name-is, name-unread}
@@ -50,7 +50,7 @@ use Rattle.resolver.proofs.Frames.{from_first, from-none, from-length}
 pub wrote_none :
     (l : Looked) (entry exit : List ℕ) (r : Answer) → r ≡ l.answer → l.answer.count ≡ 0 → l.frames ≡ [] →
     length exit ≡ length entry → Wrote l entry exit r
-unfolding flatFrames
+unfolding flat_frames
 wrote_none l entry exit r e z f k = record { says = e; records = rw (e, z, f) refl; kept = k }
 
 pub wrote-refused :
@@ -74,7 +74,7 @@ module _ (file : List ℕ) (t : Tables) (row : Place) where
           ((made : List Frame) (name : Text) → lift file t row made name fs ≡ lifted gs →
           length gs ≡ length made + 1 + length fs) →
           (x : CallRead) →
-          thenLift (λ g. lift file t row (made ++ record_of name (place_in g) ∷ []) g.name fs) x ≡ lifted gs →
+          then_lift (λ g. lift file t row (made ++ record_of name (place_in g) ∷ []) g.name fs) x ≡ lifted gs →
           length gs ≡ length made + 1 + length (f ∷ fs)
       go h (call.Is g) e =
           omega (
@@ -84,12 +84,12 @@ module _ (file : List ℕ) (t : Tables) (row : Place) where
           )
       go h (call.Refused n) e = let z : ◌≡◌ {A = ℕ} 0 1 = cc in never z
 
-lifted-is : (l : Lifted) → risen.All ≡ asRisen l → l ≡ lifted (liftedFrames l)
-unfolding liftedFrames
+lifted-is : (l : Lifted) → risen.All ≡ as_risen l → l ≡ lifted (lifted_frames l)
+unfolding lifted_frames
 lifted-is (lifted fs) e = refl
 lifted-is (no n) e = let z : ◌≡◌ {A = ℕ} 0 1 = cc in never z
 
-lifted-no : (l : Lifted) (n : ℕ) → risen.Refused n ≡ asRisen l → l ≡ no n
+lifted-no : (l : Lifted) (n : ℕ) → risen.Refused n ≡ as_risen l → l ≡ no n
 lifted-no (lifted fs) n e = let z : ◌≡◌ {A = ℕ} 0 1 = cc in never z
 lifted-no (no m) n e = let q : n ≡ m = cc in ap no (sym q)
 
@@ -98,90 +98,90 @@ lifted-no (no m) n e = let q : n ≡ m = cc in ap no (sym q)
 module _ (file : List ℕ) (t : Tables) (w : Within file t) (e : Entry) (row : Place) (frames : List ℕ) (count : ℕ)
     (some : 0 < count) (out : List ℕ) (x : TextRead)
     (X : x ≡ name_at file t.strings (frame_at 0 frames).name) where
-  first : withNamed file t e row (framesFrom 0 count frames)
-      ≡ withNamed file t e row (frame_at 0 frames ∷ framesFrom 1 (count - 1) frames)
-  first = ap (withNamed file t e row) (from_first 0 count frames some)
+  first : with_named file t e row (frames_from 0 count frames)
+      ≡ with_named file t e row (frame_at 0 frames ∷ frames_from 1 (count - 1) frames)
+  first = ap (with_named file t e row) (from_first 0 count frames some)
 
   -- the first frame's name doesn't read
   pub renamed-unread :
       x ≡ text.Unread → (r : Answer) → r ≡ refusal 6 →
-      Wrote (withNamed file t e row (framesFrom 0 count frames)) out out r
-  unfolding withNamed
+      Wrote (with_named file t e row (frames_from 0 count frames)) out out r
+  unfolding with_named
   renamed-unread u r q =
       wrote-refused _ out r 6 (first ∙ rw (name-unread file t w (frame_at 0 frames).name (sym X ∙ u)) refl) q
 
   module _ (name : Text) (N : x ≡ text.Is name) where
-    under : withNamed file t e row (framesFrom 0 count frames)
-        ≡ withLater file t e name row (framesFrom 1 (count - 1) frames)
-    unfolding withNamed
+    under : with_named file t e row (frames_from 0 count frames)
+        ≡ with_later file t e name row (frames_from 1 (count - 1) frames)
+    unfolding with_named
     under =
         let q = name-is file t w (frame_at 0 frames).name name (sym X ∙ N) in
         first ∙ rw (q.0, q.1) refl
 
     -- no later frame
     pub renamed-one :
-        count ≡ 1 → (r : Answer) → r ≡ answerWith e name row 0 →
-        Wrote (withNamed file t e row (framesFrom 0 count frames)) out out r
-    unfolding withLater
+        count ≡ 1 → (r : Answer) → r ≡ answer_with e name row 0 →
+        Wrote (with_named file t e row (frames_from 0 count frames)) out out r
+    unfolding with_later
     renamed-one o r q =
-        let s : withNamed file t e row (framesFrom 0 count frames)
-        ≡ record { answer = answerWith e name row 0; frames = [] } =
-        under ∙ ap (withLater file t e name row) (from-none 1 (count - 1) frames (omega arith)) in
+        let s : with_named file t e row (frames_from 0 count frames)
+        ≡ record { answer = answer_with e name row 0; frames = [] } =
+        under ∙ ap (with_later file t e name row) (from-none 1 (count - 1) frames (omega arith)) in
         rw s (wrote_none _ out out r q refl refl refl)
 
     module _ (not-one : count ≡ 1 → ⊥) (y : CallRead) (Y : y ≡ call_at file t (frame_at 1 frames)) where
-      onward : withNamed file t e row (framesFrom 0 count frames)
-          ≡ afterFirst file t e name row (framesFrom 2 (count - 2) frames) y
-      unfolding withLater
+      onward : with_named file t e row (frames_from 0 count frames)
+          ≡ after_first file t e name row (frames_from 2 (count - 2) frames) y
+      unfolding with_later
       onward =
           let n : count - 1 - 1 ≡ count - 2 = omega arith in
           under
-          ∙ ap (withLater file t e name row)
-          (from_first 1 (count - 1) frames (omega arith) ∙ ap (λ (j : ℕ). frame_at 1 frames ∷ framesFrom 2 j frames) n)
-          ∙ ap (afterFirst file t e name row (framesFrom 2 (count - 2) frames)) (sym Y)
+          ∙ ap (with_later file t e name row)
+          (from_first 1 (count - 1) frames (omega arith) ∙ ap (λ (j : ℕ). frame_at 1 frames ∷ frames_from 2 j frames) n)
+          ∙ ap (after_first file t e name row (frames_from 2 (count - 2) frames)) (sym Y)
 
       -- its call site doesn't read
       pub renamed-refused :
           (n : ℕ) → y ≡ call.Refused n → (r : Answer) → r ≡ refusal n →
-          Wrote (withNamed file t e row (framesFrom 0 count frames)) out out r
+          Wrote (with_named file t e row (frames_from 0 count frames)) out out r
       renamed-refused n u r q =
           wrote-refused _ out r n
-          (onward ∙ ap (afterFirst file t e name row (framesFrom 2 (count - 2) frames)) u) q
+          (onward ∙ ap (after_first file t e name row (frames_from 2 (count - 2) frames)) u) q
 
       module _ (g : Frame) (G : y ≡ call.Is g) (z : Risen) (exit : List ℕ)
           (R : Rises file t frames count g.name row out exit z) where
-        risen-is : withNamed file t e row (framesFrom 0 count frames)
-            ≡ afterLift e name g (liftAll file t frames count g.name row)
-        risen-is = onward ∙ ap (afterFirst file t e name row (framesFrom 2 (count - 2) frames)) G
+        risen-is : with_named file t e row (frames_from 0 count frames)
+            ≡ after_lift e name g (lift_all file t frames count g.name row)
+        risen-is = onward ∙ ap (after_first file t e name row (frames_from 2 (count - 2) frames)) G
 
         -- that of a frame behind it doesn't
         pub renamed-stopped :
             (n : ℕ) → z ≡ risen.Refused n → (r : Answer) → r ≡ refusal n →
-            Wrote (withNamed file t e row (framesFrom 0 count frames)) out exit r
+            Wrote (with_named file t e row (frames_from 0 count frames)) out exit r
         renamed-stopped n u r q =
-            let l = lifted-no (liftAll file t frames count g.name row) n (sym u ∙ R.says) in
-            let s : withNamed file t e row (framesFrom 0 count frames) ≡ refusing n =
-            risen-is ∙ ap (afterLift e name g) l in
+            let l = lifted-no (lift_all file t frames count g.name row) n (sym u ∙ R.says) in
+            let s : with_named file t e row (frames_from 0 count frames) ≡ refusing n =
+            risen-is ∙ ap (after_lift e name g) l in
             rw s (wrote_none (refusing n) out exit r q refl refl R.kept)
 
         -- all of them do
         pub renamed-all :
-            z ≡ risen.All → (p : Place) → p ≡ place_in g → (r : Answer) → r ≡ answerWith e name p (count - 1) →
-            Wrote (withNamed file t e row (framesFrom 0 count frames)) out exit r
+            z ≡ risen.All → (p : Place) → p ≡ place_in g → (r : Answer) → r ≡ answer_with e name p (count - 1) →
+            Wrote (with_named file t e row (frames_from 0 count frames)) out exit r
         renamed-all u p P r q =
-            let fs = liftedFrames (liftAll file t frames count g.name row) in
-            let l = lifted-is (liftAll file t frames count g.name row) (sym u ∙ R.says) in
+            let fs = lifted_frames (lift_all file t frames count g.name row) in
+            let l = lifted-is (lift_all file t frames count g.name row) (sym u ∙ R.says) in
             let n : length fs ≡ count - 1 =
             omega (
               arith,
               some,
               not-one,
-              lift-length file t row (framesFrom 2 (count - 2) frames) [] g.name fs l,
+              lift-length file t row (frames_from 2 (count - 2) frames) [] g.name fs l,
               from-length 2 (count - 2) frames,
             ) in
-            let s : withNamed file t e row (framesFrom 0 count frames)
-            ≡ record { answer = answerWith e name (place_in g) (length fs); frames = fs } =
-            risen-is ∙ ap (afterLift e name g) l in
+            let s : with_named file t e row (frames_from 0 count frames)
+            ≡ record { answer = answer_with e name (place_in g) (length fs); frames = fs } =
+            risen-is ∙ ap (after_lift e name g) l in
             record {
               says = q ∙ rw (s, n, P) refl;
               records = rw (s, q, ← n) R.records;

@@ -18,64 +18,64 @@ use Rattle.parser.specs.declared.Opened.TheVariants as opened
 use Rattle.parser.specs.declared.Found.{Found}
 use Rattle.parser.specs.declared.Found.TheVariants as place
 use Rattle.parser.specs.Header.{opened_of}
-use Rattle.parser.specs.Search.{findOf, Nowhere}
-use Rattle.parser.specs.Entries.{symbol_at, coveredBy}
+use Rattle.parser.specs.Search.{find_of, Nowhere}
+use Rattle.parser.specs.Entries.{symbol_at, covered_by}
 use Rattle.parser.proofs.Places.{tables-within}
 use Rattle.parser.proofs.Symbols.{find-unknown, unknown-find}
 use Rattle.inline.proofs.Numbers.{never}
 use Rattle.resolver.specs.Data.{Data, DataRead, is, unread, data_of}
-use Rattle.resolver.specs.Book.{Book, bookOf, readsName}
+use Rattle.resolver.specs.Book.{Book, book_of, reads_name}
 use Rattle.resolver.specs.Heard.{ask, Heard, known, fault, hear}
-use Rattle.resolver.specs.Says.{Site, SiteRead, is, no, siteOf, Calls, calls, calls_of, at, absent}
+use Rattle.resolver.specs.Says.{Site, SiteRead, is, no, site_of, Calls, calls, calls_of, at, absent}
 use Rattle.resolver.specs.Says.{Said, says, refuses}
-use Rattle.resolver.specs.Says.{withCalls, withFrames, afterHeard, sayMore, sayOf}
+use Rattle.resolver.specs.Says.{with_calls, with_frames, after_heard, say_more, say_of}
 use Rattle.resolver.specs.Spell.{refusing, spell}
-use Rattle.resolver.specs.Lookup.{answer_of, answerAt, afterFound, afterOpened, lookupOf}
+use Rattle.resolver.specs.Lookup.{answer_of, answer_at, after_found, after_opened, lookup_of}
 use Rattle.resolver.proofs.Causes.{Unplaced, site-unplaced, unplaced-site}
 use Rattle.resolver.proofs.Causes.{FirstUncalled, calls-uncalled, uncalled-calls}
 
 -- what the items of an entry say at an address
-abbrev pub heardOf : Address → Data → Address → Options → ℕ → Heard
-heardOf symbol d addr o room = hear (ask symbol addr room o.inlining) d.items found.Nothing []
+abbrev pub heard_of : Address → Data → Address → Options → ℕ → Heard
+heard_of symbol d addr o room = hear (ask symbol addr room o.inlining) d.items found.Nothing []
 
 -- the entry covers the address, its name reads, and code info is asked for
 pub record Asked (b : Book) (symbol : Address) (d : Data) (addr : Address) (o : Options) : Type 0 where
-  pub covered : coveredBy addr symbol d.size ≡ true
-  pub named : readsName b d.name ≡ true
+  pub covered : covered_by addr symbol d.size ≡ true
+  pub named : reads_name b d.name ≡ true
   pub code : o.code_info ≡ true
 
 -- why what an entry says is a refusal, in document 01's order
 pub data Unsaid (b : Book) (symbol : Address) (d : Data) (addr : Address) (o : Options) (room n : ℕ) : Type 0 where
-  uncovered : coveredBy addr symbol d.size ≡ false → n ≡ 1 → Unsaid b symbol d addr o room n
-  unnamed : coveredBy addr symbol d.size ≡ true → readsName b d.name ≡ false → n ≡ 6 →
+  uncovered : covered_by addr symbol d.size ≡ false → n ≡ 1 → Unsaid b symbol d addr o room n
+  unnamed : covered_by addr symbol d.size ≡ true → reads_name b d.name ≡ false → n ≡ 6 →
       Unsaid b symbol d addr o room n
-  unheard : Asked b symbol d addr o → heardOf symbol d addr o room ≡ fault n → Unsaid b symbol d addr o room n
+  unheard : Asked b symbol d addr o → heard_of symbol d addr o room ≡ fault n → Unsaid b symbol d addr o room n
   unplaced : (r : LineTableRow) (fs : List InlineFrame) → Asked b symbol d addr o →
-      heardOf symbol d addr o room ≡ known (found.Row r) fs → Unplaced b r.file_idx.0 n →
+      heard_of symbol d addr o room ≡ known (found.Row r) fs → Unplaced b r.file_idx.0 n →
       Unsaid b symbol d addr o room n
   first-unnamed : (r : LineTableRow) (f : InlineFrame) (fs : List InlineFrame) (s : Site) → Asked b symbol d addr o →
-      heardOf symbol d addr o room ≡ known (found.Row r) (f ∷ fs) →
-      siteOf b r.file_idx.0 r.file_line.0 ≡ is s → readsName b f.name.0 ≡ false → n ≡ 6 →
+      heard_of symbol d addr o room ≡ known (found.Row r) (f ∷ fs) →
+      site_of b r.file_idx.0 r.file_line.0 ≡ is s → reads_name b f.name.0 ≡ false → n ≡ 6 →
       Unsaid b symbol d addr o room n
   uncalled : (r : LineTableRow) (f : InlineFrame) (fs : List InlineFrame) (s : Site) → Asked b symbol d addr o →
-      heardOf symbol d addr o room ≡ known (found.Row r) (f ∷ fs) →
-      siteOf b r.file_idx.0 r.file_line.0 ≡ is s → readsName b f.name.0 ≡ true →
+      heard_of symbol d addr o room ≡ known (found.Row r) (f ∷ fs) →
+      site_of b r.file_idx.0 r.file_line.0 ≡ is s → reads_name b f.name.0 ≡ true →
       FirstUncalled b fs n → Unsaid b symbol d addr o room n
 
 -- why a lookup is a refusal, in document 01's order
 pub data Met (file : List ℕ) (addr : Address) (o : Options) (room n : ℕ) : Type 0 where
   unopened : opened_of file ≡ opened.Refused n → Met file addr o room n
   nowhere : (t : Tables) → opened_of file ≡ opened.Is t → Nowhere file t addr → n ≡ 1 → Met file addr o room n
-  no-data : (t : Tables) (i : ℕ) → opened_of file ≡ opened.Is t → findOf file t addr ≡ place.At i →
+  no-data : (t : Tables) (i : ℕ) → opened_of file ≡ opened.Is t → find_of file t addr ≡ place.At i →
       data_of file t i ≡ unread → n ≡ 5 → Met file addr o room n
-  unsaid : (t : Tables) (i : ℕ) (d : Data) → opened_of file ≡ opened.Is t → findOf file t addr ≡ place.At i →
-      data_of file t i ≡ is d → Unsaid (bookOf file t) (symbol_at file t i) d addr o room n → Met file addr o room n
+  unsaid : (t : Tables) (i : ℕ) (d : Data) → opened_of file ≡ opened.Is t → find_of file t addr ≡ place.At i →
+      data_of file t i ≡ is d → Unsaid (book_of file t) (symbol_at file t i) d addr o room n → Met file addr o room n
 
 -- ---- what an entry says
 
 module _ (b : Book) (symbol : Address) (d : Data) (addr : Address) (o : Options) (room n : ℕ) where
-  pub unsaid-say : Unsaid b symbol d addr o room n → sayOf b symbol d addr o room ≡ refuses n
-  unfolding sayOf sayMore afterHeard withFrames
+  pub unsaid-say : Unsaid b symbol d addr o room n → say_of b symbol d addr o room ≡ refuses n
+  unfolding say_of say_more after_heard with_frames
   unsaid-say (uncovered c e) = rw (c, e)
   unsaid-say (unnamed c m e) = rw (c, m, e)
   unsaid-say (unheard A h) = rw (A.covered, A.named, A.code, h)
@@ -88,46 +88,46 @@ module _ (b : Book) (symbol : Address) (d : Data) (addr : Address) (o : Options)
       rw (A.covered, A.named, A.code, h, p, m, c)
 
   module _ (A : Asked b symbol d addr o) where
-    frames-unsaid : (r : LineTableRow) (fs : List InlineFrame) → heardOf symbol d addr o room ≡ known (found.Row r) fs →
-        (k : SiteRead) → siteOf b r.file_idx.0 r.file_line.0 ≡ k → withFrames b d fs k ≡ refuses n →
+    frames-unsaid : (r : LineTableRow) (fs : List InlineFrame) → heard_of symbol d addr o room ≡ known (found.Row r) fs →
+        (k : SiteRead) → site_of b r.file_idx.0 r.file_line.0 ≡ k → with_frames b d fs k ≡ refuses n →
         Unsaid b symbol d addr o room n
-    unfolding withFrames
+    unfolding with_frames
     frames-unsaid r fs h (no m) p e =
         let q : m ≡ n = cc in
         unplaced r fs A h (site-unplaced b r.file_idx.0 r.file_line.0 n (p ∙ ap (λ x. no x) q))
     frames-unsaid r [] h (is s) p e = never (let z : ◌≡◌ {A = ℕ} 0 1 = cc in z)
-    frames-unsaid r (f ∷ fs) h (is s) p e = by_name (readsName b f.name.0) refl (calls_of b fs) refl e
+    frames-unsaid r (f ∷ fs) h (is s) p e = by_name (reads_name b f.name.0) refl (calls_of b fs) refl e
       where
-        by_name : (t : Bool) → readsName b f.name.0 ≡ t → (k : Calls) → calls_of b fs ≡ k →
-            pick t (withCalls d.size f.name.0 s k) (refuses 6) ≡ refuses n → Unsaid b symbol d addr o room n
+        by_name : (t : Bool) → reads_name b f.name.0 ≡ t → (k : Calls) → calls_of b fs ≡ k →
+            pick t (with_calls d.size f.name.0 s k) (refuses 6) ≡ refuses n → Unsaid b symbol d addr o room n
         by_name false m k c e = first-unnamed r f fs s A h p m cc
         by_name true m (calls cs) c e = never (let z : ◌≡◌ {A = ℕ} 0 1 = cc in z)
         by_name true m (no j) c e =
             let q : j ≡ n = cc in
             uncalled r f fs s A h p m (calls-uncalled b fs n (c ∙ ap (λ x. no x) q))
 
-    heard-unsaid : (h : Heard) → heardOf symbol d addr o room ≡ h → afterHeard b d h ≡ refuses n →
+    heard-unsaid : (h : Heard) → heard_of symbol d addr o room ≡ h → after_heard b d h ≡ refuses n →
         Unsaid b symbol d addr o room n
-    unfolding afterHeard
+    unfolding after_heard
     heard-unsaid (fault m) h e = let q : m ≡ n = cc in unheard A (h ∙ ap fault q)
     heard-unsaid (known found.Nothing fs) h e = never (let z : ◌≡◌ {A = ℕ} 0 1 = cc in z)
     heard-unsaid (known (found.Row r) fs) h e =
-        frames-unsaid r fs h (siteOf b r.file_idx.0 r.file_line.0) refl e
+        frames-unsaid r fs h (site_of b r.file_idx.0 r.file_line.0) refl e
 
-  more-unsaid : coveredBy addr symbol d.size ≡ true → readsName b d.name ≡ true → (t : Bool) →
-      o.code_info ≡ t → sayMore b d (ask symbol addr room o.inlining) t ≡ refuses n →
+  more-unsaid : covered_by addr symbol d.size ≡ true → reads_name b d.name ≡ true → (t : Bool) →
+      o.code_info ≡ t → say_more b d (ask symbol addr room o.inlining) t ≡ refuses n →
       Unsaid b symbol d addr o room n
-  unfolding sayMore
+  unfolding say_more
   more-unsaid c m true k e =
-      heard-unsaid (record { covered = c; named = m; code = k }) (heardOf symbol d addr o room) refl e
+      heard-unsaid (record { covered = c; named = m; code = k }) (heard_of symbol d addr o room) refl e
   more-unsaid c m false k e = never (let z : ◌≡◌ {A = ℕ} 0 1 = cc in z)
 
-  pub say-unsaid : sayOf b symbol d addr o room ≡ refuses n → Unsaid b symbol d addr o room n
-  unfolding sayOf
-  say-unsaid e = go (coveredBy addr symbol d.size) refl (readsName b d.name) refl e
+  pub say-unsaid : say_of b symbol d addr o room ≡ refuses n → Unsaid b symbol d addr o room n
+  unfolding say_of
+  say-unsaid e = go (covered_by addr symbol d.size) refl (reads_name b d.name) refl e
     where
-      go : (t : Bool) → coveredBy addr symbol d.size ≡ t → (u : Bool) → readsName b d.name ≡ u →
-          pick t (pick u (sayMore b d (ask symbol addr room o.inlining) o.code_info) (refuses 6)) (refuses 1)
+      go : (t : Bool) → covered_by addr symbol d.size ≡ t → (u : Bool) → reads_name b d.name ≡ u →
+          pick t (pick u (say_more b d (ask symbol addr room o.inlining) o.code_info) (refuses 6)) (refuses 1)
           ≡ refuses n →
           Unsaid b symbol d addr o room n
       go false c u m e = uncovered c cc
@@ -145,41 +145,41 @@ spell-no b p symbol (says size name absent cs) n e l = absurd (omega arith)
 spell-no b p symbol (refuses m) n e l = ap refuses e
 
 module _ (file : List ℕ) (addr : Address) (o : Options) (room n : ℕ) where
-  pub met-lookup : Met file addr o room n → lookupOf file addr o room ≡ refusing n
-  unfolding lookupOf afterOpened afterFound answerAt answer_of spell
+  pub met-lookup : Met file addr o room n → lookup_of file addr o room ≡ refusing n
+  unfolding lookup_of after_opened after_found answer_at answer_of spell
   met-lookup (unopened e) = rw e
   met-lookup (nowhere t e w q) = let u = unknown-find file t addr w in rw (e, u, q)
   met-lookup (no-data t i e f k q) = rw (e, f, k, q)
   met-lookup (unsaid t i d e f k u) =
-      let s = unsaid-say (bookOf file t) (symbol_at file t i) d addr o room n u in
+      let s = unsaid-say (book_of file t) (symbol_at file t i) d addr o room n u in
       rw (e, f, k, s)
 
   module _ (t : Tables) (e : opened_of file ≡ opened.Is t) (l : 0 < n) where
-    data-met : (i : ℕ) → findOf file t addr ≡ place.At i → (k : DataRead) → data_of file t i ≡ k →
+    data-met : (i : ℕ) → find_of file t addr ≡ place.At i → (k : DataRead) → data_of file t i ≡ k →
         (answer_of file t (symbol_at file t i) addr o room k).answer.number ≡ n → Met file addr o room n
     unfolding answer_of
     data-met i f (is d) k p =
-        let b = bookOf file t in
-        let s = sayOf b (symbol_at file t i) d addr o room in
+        let b = book_of file t in
+        let s = say_of b (symbol_at file t i) d addr o room in
         let r = spell-no b t.strings.place (symbol_at file t i) s n p l in
         unsaid t i d e f k (say-unsaid b (symbol_at file t i) d addr o room n r)
     data-met i f unread k p = no-data t i e f k (sym p)
 
-    found-met : (k : Found) → findOf file t addr ≡ k → (afterFound file t addr o room k).answer.number ≡ n →
+    found-met : (k : Found) → find_of file t addr ≡ k → (after_found file t addr o room k).answer.number ≡ n →
         Met file addr o room n
-    unfolding afterFound answerAt
+    unfolding after_found answer_at
     found-met (place.At i) f p = data-met i f (data_of file t i) refl p
     found-met place.Unknown f p = nowhere t e (find-unknown file t addr (tables-within file t e) f) (sym p)
 
-  pub lookup-met : (lookupOf file addr o room).answer.number ≡ n → 0 < n → Met file addr o room n
-  unfolding lookupOf afterOpened
+  pub lookup-met : (lookup_of file addr o room).answer.number ≡ n → 0 < n → Met file addr o room n
+  unfolding lookup_of after_opened
   lookup-met p l = go (opened_of file) refl p
     where
-      go : (k : Opened) → opened_of file ≡ k → (afterOpened file addr o room k).answer.number ≡ n →
+      go : (k : Opened) → opened_of file ≡ k → (after_opened file addr o room k).answer.number ≡ n →
           Met file addr o room n
-      go (opened.Is t) e q = found-met t e l (findOf file t addr) refl q
+      go (opened.Is t) e q = found-met t e l (find_of file t addr) refl q
       go (opened.Refused m) e q = unopened (e ∙ ap opened.Refused q)
 
   -- a number other than 0 comes with zeros and no records
-  pub refusal-zero : (lookupOf file addr o room).answer.number ≡ n → 0 < n → lookupOf file addr o room ≡ refusing n
+  pub refusal-zero : (lookup_of file addr o room).answer.number ≡ n → 0 < n → lookup_of file addr o room ≡ refusing n
   refusal-zero p l = met-lookup (lookup-met p l)

@@ -16,17 +16,17 @@ use Rattle.linetab.specs.declared.RowFound.TheVariants as found
 use Rattle.inline.proofs.Numbers.{never}
 use Rattle.inline.proofs.Answers.{block_room}
 use Rattle.resolver.specs.Data.{Data}
-use Rattle.resolver.specs.Book.{Book, bookOf, readsName}
+use Rattle.resolver.specs.Book.{Book, book_of, reads_name}
 use Rattle.resolver.specs.Heard.{ask}
-use Rattle.resolver.specs.Says.{Site, SiteRead, is, no, siteOf, Call, Calls, calls, withSite, calls_of}
+use Rattle.resolver.specs.Says.{Site, SiteRead, is, no, site_of, Call, Calls, calls, with_site, calls_of}
 use Rattle.resolver.specs.Says.{Position, at, absent, says, raised}
-use Rattle.resolver.specs.Spell.{Looked, spellFrame, spell}
-use Rattle.resolver.specs.Lookup.{lookupOf}
-use Rattle.resolver.specs.Rows.{recordsIn}
+use Rattle.resolver.specs.Spell.{Looked, spell_frame, spell}
+use Rattle.resolver.specs.Lookup.{lookup_of}
+use Rattle.resolver.specs.Rows.{records_in}
 use Rattle.resolver.proofs.Heards.{frames-off, heard-parts}
 use Rattle.resolver.proofs.FirstBlocks.{heard-frames}
 use Rattle.resolver.proofs.Outcomes.{Saying, unasked, no_row, no_frames, with-frames, say-saying}
-use Rattle.resolver.proofs.Outcomes.{Entered, enteredSpells, Outcome, refused, said, outcome}
+use Rattle.resolver.proofs.Outcomes.{Entered, entered_spells, Outcome, refused, said, outcome}
 
 -- ---- as many records as later frames
 
@@ -39,11 +39,11 @@ pub length-calls : (b : Book) (fs : List InlineFrame) (cs : List Call) → calls
 unfolding calls_of
 length-calls b [] cs e = let q : [] ≡ cs = cc in ap length (sym q)
 length-calls b (f ∷ fs) cs e =
-    go (length-calls b fs) (readsName b f.name.0) (siteOf b f.call_file.0 f.call_line.0) (calls_of b fs)
+    go (length-calls b fs) (reads_name b f.name.0) (site_of b f.call_file.0 f.call_line.0) (calls_of b fs)
     refl e
   where
     go : ((cs : List Call) → calls_of b fs ≡ calls cs → length cs ≡ length fs) → (t : Bool) (k : SiteRead) (r : Calls) →
-        calls_of b fs ≡ r → pick t (withSite f.name.0 r k) (no 6) ≡ calls cs → length cs ≡ suc (length fs)
+        calls_of b fs ≡ r → pick t (with_site f.name.0 r k) (no 6) ≡ calls cs → length cs ≡ suc (length fs)
     go rest false k r q e = never (let z : ◌≡◌ {A = ℕ} 0 1 = cc in z)
     go rest true (no m) r q e = never (let z : ◌≡◌ {A = ℕ} 0 1 = cc in z)
     go rest true (is s) (no m) q e = never (let z : ◌≡◌ {A = ℕ} 0 1 = cc in z)
@@ -97,40 +97,40 @@ spelt-count b place symbol size name (at s) cs = refl
 spelt-count b place symbol size name absent cs = refl
 
 spelt-frames : (b : Book) (place : ℕ) (symbol : Address) (size name : ℕ) (p : Position) (cs : List Call) →
-    (spell b place symbol (says size name p cs)).frames ≡ map (spellFrame b place) cs
+    (spell b place symbol (says size name p cs)).frames ≡ map (spell_frame b place) cs
 unfolding spell
 spelt-frames b place symbol size name p cs = refl
 
 module _ (file : List ℕ) (addr : Address) (o : Options) (room : ℕ) where
   -- the count, and the records, where the lookup isn't refused
   module _ (L : Entered file addr) (size name : ℕ) (p : Position) (cs : List Call)
-      (e : lookupOf file addr o room ≡ enteredSpells L (says size name p cs)) where
-    count-calls : (lookupOf file addr o room).answer.count ≡ length cs
+      (e : lookup_of file addr o room ≡ entered_spells L (says size name p cs)) where
+    count-calls : (lookup_of file addr o room).answer.count ≡ length cs
     count-calls = ap (λ (l : Looked). l.answer.count) e ∙ spelt-count _ _ _ size name p cs
 
     frames-calls :
-        (lookupOf file addr o room).frames
-        ≡ map (spellFrame (bookOf file L.tables) L.tables.strings.place) cs
+        (lookup_of file addr o room).frames
+        ≡ map (spell_frame (book_of file L.tables) L.tables.strings.place) cs
     frames-calls = ap (λ (l : Looked). l.frames) e ∙ spelt-frames _ _ _ size name p cs
 
-  pub count-is : (lookupOf file addr o room).answer.count ≡ length (lookupOf file addr o room).frames
+  pub count-is : (lookup_of file addr o room).answer.count ≡ length (lookup_of file addr o room).frames
   count-is = go (outcome file addr o room)
     where
       go : Outcome file addr o room →
-          (lookupOf file addr o room).answer.count ≡ length (lookupOf file addr o room).frames
+          (lookup_of file addr o room).answer.count ≡ length (lookup_of file addr o room).frames
       go (refused n e) =
           ap (λ (l : Looked). l.answer.count) e ∙ sym (ap (λ (l : Looked). length l.frames) e)
       go (said L size name p cs k e) =
           count-calls L size name p cs e
-          ∙ sym (ap length (frames-calls L size name p cs e) ∙ length-map (spellFrame _ _) cs)
+          ∙ sym (ap length (frames-calls L size name p cs e) ∙ length-map (spell_frame _ _) cs)
 
   -- records are fewer than the room
   pub count_room :
-      ((lookupOf file addr o room).answer.count ≡ 0) ⊎ ((lookupOf file addr o room).answer.count + 1 ≤ room)
+      ((lookup_of file addr o room).answer.count ≡ 0) ⊎ ((lookup_of file addr o room).answer.count + 1 ≤ room)
   count_room = go (outcome file addr o room)
     where
       go : Outcome file addr o room →
-          ((lookupOf file addr o room).answer.count ≡ 0) ⊎ ((lookupOf file addr o room).answer.count + 1 ≤ room)
+          ((lookup_of file addr o room).answer.count ≡ 0) ⊎ ((lookup_of file addr o room).answer.count + 1 ≤ room)
       go (refused n e) = inl (ap (λ (l : Looked). l.answer.count) e)
       go (said L size name p cs k e) =
           let S = (say-saying _ _ L.data-of addr o room size name p cs k).1 in
@@ -142,11 +142,11 @@ module _ (file : List ℕ) (addr : Address) (o : Options) (room : ℕ) where
 
   pub no-records :
       (o.code_info ≡ false) ⊎ (o.inlining ≡ false) →
-      ((lookupOf file addr o room).frames ≡ []) × ((lookupOf file addr o room).answer.count ≡ 0)
+      ((lookup_of file addr o room).frames ≡ []) × ((lookup_of file addr o room).answer.count ≡ 0)
   no-records h = go (outcome file addr o room)
     where
       go : Outcome file addr o room →
-          ((lookupOf file addr o room).frames ≡ []) × ((lookupOf file addr o room).answer.count ≡ 0)
+          ((lookup_of file addr o room).frames ≡ []) × ((lookup_of file addr o room).answer.count ≡ 0)
       go (refused n e) = (ap (λ (l : Looked). l.frames) e, ap (λ (l : Looked). l.answer.count) e)
       go (said L size name p cs k e) =
           let S = (say-saying _ _ L.data-of addr o room size name p cs k).1 in
@@ -155,15 +155,15 @@ module _ (file : List ℕ) (addr : Address) (o : Options) (room : ℕ) where
           (λ (c : o.code_info ≡ false). saying-plain _ _ L.data-of addr o room name p cs c S)
           (λ (c : o.inlining ≡ false). saying-off _ _ L.data-of addr o room name p cs c S)
           h in (
-            frames-calls L size name p cs e ∙ ap (map (spellFrame _ _)) w,
+            frames-calls L size name p cs e ∙ ap (map (spell_frame _ _)) w,
             count-calls L size name p cs e ∙ ap length w,
           )
 
 -- in a list of numbers that says the room, seven to a record, the records fit
 pub count_fits : (file : List ℕ) (addr : Address) (o : Options) (store : List ℕ) →
-    7 * (lookupOf file addr o (recordsIn store)).answer.count ≤ length store
+    7 * (lookup_of file addr o (records_in store)).answer.count ≤ length store
 count_fits file addr o store =
     ⊎_elim
-    (λ (z : (lookupOf file addr o (recordsIn store)).answer.count ≡ 0). omega arith)
-    (λ (l : (lookupOf file addr o (recordsIn store)).answer.count + 1 ≤ recordsIn store). omega arith)
-    (count_room file addr o (recordsIn store))
+    (λ (z : (lookup_of file addr o (records_in store)).answer.count ≡ 0). omega arith)
+    (λ (l : (lookup_of file addr o (records_in store)).answer.count + 1 ≤ records_in store). omega arith)
+    (count_room file addr o (records_in store))

@@ -11,8 +11,8 @@ use Rattle.parser.proofs.Symbols.{symbol-le}
 use Rattle.resolver.specs.Book.{Book}
 use Rattle.resolver.specs.Says.{Call, Position, at, absent, says}
 use Rattle.resolver.specs.Spell.{Looked, spell}
-use Rattle.resolver.specs.Lookup.{lookupOf}
-use Rattle.resolver.proofs.Outcomes.{Entered, enteredSpells, Outcome, refused, said, outcome}
+use Rattle.resolver.specs.Lookup.{lookup_of}
+use Rattle.resolver.proofs.Outcomes.{Entered, entered_spells, Outcome, refused, said, outcome}
 
 spelt-address : (b : Book) (place : ℕ) (symbol : Address) (size name : ℕ) (p : Position) (cs : List Call) →
     (spell b place symbol (says size name p cs)).answer.addr ≡ symbol
@@ -23,17 +23,17 @@ spelt-address b place symbol size name absent cs = refl
 module _ (file : List ℕ) (addr : Address) (o : Options) (room : ℕ) where
   -- where the lookup isn't refused, it is that of the entry
   pub address_is : (L : Entered file addr) (size name : ℕ) (p : Position) (cs : List Call) →
-      lookupOf file addr o room ≡ enteredSpells L (says size name p cs) →
-      (lookupOf file addr o room).answer.addr ≡ symbol_at file L.tables L.index
+      lookup_of file addr o room ≡ entered_spells L (says size name p cs) →
+      (lookup_of file addr o room).answer.addr ≡ symbol_at file L.tables L.index
   address_is L size name p cs e =
       ap (λ (l : Looked). l.answer.addr) e ∙ spelt-address _ _ (symbol_at file L.tables L.index) size name p cs
 
-  pub address-le : addr.0 < 2 ^ 64 → (lookupOf file addr o room).answer.addr.0 ≤ addr.0
+  pub address-le : addr.0 < 2 ^ 64 → (lookup_of file addr o room).answer.addr.0 ≤ addr.0
   address-le h = go (outcome file addr o room)
     where
-      go : Outcome file addr o room → (lookupOf file addr o room).answer.addr.0 ≤ addr.0
+      go : Outcome file addr o room → (lookup_of file addr o room).answer.addr.0 ≤ addr.0
       go (refused n e) =
-          let z : (lookupOf file addr o room).answer.addr.0 ≡ 0 = ap (λ (l : Looked). l.answer.addr.0) e in
+          let z : (lookup_of file addr o room).answer.addr.0 ≡ 0 = ap (λ (l : Looked). l.answer.addr.0) e in
           omega arith
       go (said L size name p cs k e) =
           let q = ap (λ (a : Address). a.0) (address_is L size name p cs e) in

@@ -11,7 +11,7 @@ use Rattle.types.specs.declared.Address.{Address}
 use Rattle.types.specs.declared.InlineFrame.{InlineFrame}
 use Rattle.linetab.specs.declared.RowFound.{RowFound}
 use Rattle.linetab.specs.declared.RowFound.TheVariants as found
-use Rattle.inline.specs.Block.{block_of, framesOf, roomOf, Lists}
+use Rattle.inline.specs.Block.{block_of, frames_of, room_of, Lists}
 use Rattle.inline.specs.Store.{flat}
 use Rattle.inline.specs.declared.Listed.{Listed}
 use Rattle.inline.proofs.Answers.{number-zero, number-other, count-is, count-within}
@@ -22,13 +22,13 @@ use Rattle.parser.proofs.Steps.{item-ahead, item-next}
 use Rattle.resolver.specs.declared.items.LineHeard.{LineHeard}
 use Rattle.resolver.specs.declared.items.LineHeard.TheVariants as heard
 use Rattle.resolver.specs.declared.items.CodeRead.TheVariants as code
-use Rattle.resolver.specs.Data.{Piece, piece, itemsAt}
+use Rattle.resolver.specs.Data.{Piece, piece, items_at}
 use Rattle.resolver.specs.Heard.{Ask, ask, known, fault, after_block, hear}
-use Rattle.resolver.specs.Stages.{lineHeard}
-use Rattle.resolver.specs.Rows.{framesFrom, asCode, heardFrames, heardIn, Hears}
+use Rattle.resolver.specs.Stages.{line_heard}
+use Rattle.resolver.specs.Rows.{frames_from, as_code, heard_frames, heard_in, Hears}
 use Rattle.resolver.proofs.Pieces.{items-is, items-closed, items-torn}
 use Rattle.resolver.proofs.Frames.{from-length, from-none, from_front, from-flat}
-use Rattle.resolver.proofs.Hearing.{afterRow, hear-line, hear-other, hear-more, hear-block}
+use Rattle.resolver.proofs.Hearing.{after_row, hear-line, hear-other, hear-more, hear-block}
 
 module _ (symbol addr : Address) (file : List ℕ) (items : ℕ) (entry : List ℕ) where
   abbrev asked : Ask
@@ -39,31 +39,31 @@ module _ (symbol addr : Address) (file : List ℕ) (items : ℕ) (entry : List �
     pub kept : length store ≡ length entry
     pub within : 3 * count ≤ length store
     pub same :
-        heardIn symbol addr (min 64 (length entry / 3)) (itemsAt file items).list
-        ≡ hear (ask symbol addr (min 64 (length entry / 3)) true) (itemsAt file at).list row (framesFrom 0 count store)
+        heard_in symbol addr (min 64 (length entry / 3)) (items_at file items).list
+        ≡ hear (ask symbol addr (min 64 (length entry / 3)) true) (items_at file at).list row (frames_from 0 count store)
 
   pub sofar-start : Sofar entry found.Nothing 0 items
-  unfolding framesFrom
+  unfolding frames_from
   sofar-start = record { kept = refl; within = omega arith; same = refl }
 
   -- a refusal
   refuses :
       (exit : List ℕ) (n : ℕ) → length exit ≡ length entry →
-      heardIn symbol addr (min 64 (length entry / 3)) (itemsAt file items).list ≡ fault n →
-      Hears symbol addr (itemsAt file items).list entry exit (code.Refused n)
-  unfolding asCode heardFrames flat
+      heard_in symbol addr (min 64 (length entry / 3)) (items_at file items).list ≡ fault n →
+      Hears symbol addr (items_at file items).list entry exit (code.Refused n)
+  unfolding as_code heard_frames flat
   refuses exit n k e = record { says = rw e refl; frames = rw e refl; kept = k }
 
   module _ (store : List ℕ) (row : RowFound) (count at : ℕ) (S : Sofar store row count at) where
     -- the list's end
     ends :
-        (itemsAt file at).list ≡ [] →
-        Hears symbol addr (itemsAt file items).list entry store (code.Known row count)
-    unfolding asCode heardFrames hear
+        (items_at file at).list ≡ [] →
+        Hears symbol addr (items_at file items).list entry store (code.Known row count)
+    unfolding as_code heard_frames hear
     ends e =
-        let s : heardIn symbol addr (min 64 (length entry / 3)) (itemsAt file items).list
-        ≡ known row (framesFrom 0 count store) =
-        S.same ∙ ap (λ (ps : List Piece). hear asked ps row (framesFrom 0 count store)) e in
+        let s : heard_in symbol addr (min 64 (length entry / 3)) (items_at file items).list
+        ≡ known row (frames_from 0 count store) =
+        S.same ∙ ap (λ (ps : List Piece). hear asked ps row (frames_from 0 count store)) e in
         record {
           says = rw (s, from-length 0 count store) refl;
           frames = rw s (from-flat count store S.within);
@@ -72,20 +72,20 @@ module _ (symbol addr : Address) (file : List ℕ) (items : ℕ) (entry : List �
 
     module _ (x : Item) (X : x ≡ item_at file at) where
       pub hears-closed :
-          x ≡ item.Closed → Hears symbol addr (itemsAt file items).list entry store (code.Known row count)
+          x ≡ item.Closed → Hears symbol addr (items_at file items).list entry store (code.Known row count)
       hears-closed e = ends (items-closed file at (sym X ∙ e))
 
       pub hears-torn :
-          x ≡ item.Torn → Hears symbol addr (itemsAt file items).list entry store (code.Known row count)
+          x ≡ item.Torn → Hears symbol addr (items_at file items).list entry store (code.Known row count)
       hears-torn e = ends (items-torn file at (sym X ∙ e))
 
     module _ (x : Item) (X : x ≡ item_at file at) (kind place len next : ℕ) (I : x ≡ item.Is kind place len next) where
-      onward : heardIn symbol addr (min 64 (length entry / 3)) (itemsAt file items).list
-          ≡ hear asked (piece kind (take len (drop place file)) ∷ (itemsAt file next).list) row
-          (framesFrom 0 count store)
+      onward : heard_in symbol addr (min 64 (length entry / 3)) (items_at file items).list
+          ≡ hear asked (piece kind (take len (drop place file)) ∷ (items_at file next).list) row
+          (frames_from 0 count store)
       onward =
           S.same
-          ∙ ap (λ (ps : List Piece). hear asked ps row (framesFrom 0 count store))
+          ∙ ap (λ (ps : List Piece). hear asked ps row (frames_from 0 count store))
           (items-is file at kind place len next (sym X ∙ I))
 
       -- the bytes of the part from place to its end
@@ -94,31 +94,31 @@ module _ (symbol addr : Address) (file : List ℕ) (items : ℕ) (entry : List �
 
       -- a line block
       module _ (is-line : kind ≡ 1) (r : LineHeard)
-          (L : r ≡ lineHeard (take (place + len - place) (drop place file)) symbol addr row) where
-        after_line : heardIn symbol addr (min 64 (length entry / 3)) (itemsAt file items).list
-            ≡ afterRow (λ s. hear asked (itemsAt file next).list s (framesFrom 0 count store)) r
-        after_line =
+          (L : r ≡ line_heard (take (place + len - place) (drop place file)) symbol addr row) where
+        after-line : heard_in symbol addr (min 64 (length entry / 3)) (items_at file items).list
+            ≡ after_row (λ s. hear asked (items_at file next).list s (frames_from 0 count store)) r
+        after-line =
             onward
-            ∙ hear-line asked (piece kind (take len (drop place file))) (itemsAt file next).list row
-            (framesFrom 0 count store) is-line
-            ∙ ap (afterRow (λ s. hear asked (itemsAt file next).list s (framesFrom 0 count store)))
-            (sym (L ∙ ap (λ (n : ℕ). lineHeard (take n (drop place file)) symbol addr row) part-is))
+            ∙ hear-line asked (piece kind (take len (drop place file))) (items_at file next).list row
+            (frames_from 0 count store) is-line
+            ∙ ap (after_row (λ s. hear asked (items_at file next).list s (frames_from 0 count store)))
+            (sym (L ∙ ap (λ (n : ℕ). line_heard (take n (drop place file)) symbol addr row) part-is))
 
         pub sofar-line : (after : RowFound) → r ≡ heard.Is after → Sofar store after count next
         sofar-line after e = record {
           kept = S.kept;
           within = S.within;
           same =
-              after_line
-              ∙ ap (afterRow (λ s. hear asked (itemsAt file next).list s (framesFrom 0 count store))) e;
+              after-line
+              ∙ ap (after_row (λ s. hear asked (items_at file next).list s (frames_from 0 count store))) e;
         }
 
         pub hears-unread :
-            r ≡ heard.Unread → Hears symbol addr (itemsAt file items).list entry store (code.Refused 9)
+            r ≡ heard.Unread → Hears symbol addr (items_at file items).list entry store (code.Refused 9)
         hears-unread e =
             refuses store 9 S.kept
-            (after_line
-            ∙ ap (afterRow (λ s. hear asked (itemsAt file next).list s (framesFrom 0 count store))) e)
+            (after-line
+            ∙ ap (after_row (λ s. hear asked (items_at file next).list s (frames_from 0 count store))) e)
 
       -- an inline block where no frame is known
       module _ (is_Block : kind ≡ 2) (none : count ≡ 0) (exit : List ℕ) (r : Listed)
@@ -126,42 +126,42 @@ module _ (symbol addr : Address) (file : List ℕ) (items : ℕ) (entry : List �
         L : Lists (take len (drop place file)) symbol.0 addr.0 store exit r
         L = subst (λ (n : ℕ). Lists (take n (drop place file)) symbol.0 addr.0 store exit r) part-is K
 
-        after-block : heardIn symbol addr (min 64 (length entry / 3)) (itemsAt file items).list
-            ≡ after_block (λ gs. hear asked (itemsAt file next).list row gs)
-            (block_of symbol.0 addr.0 (roomOf store) (take len (drop place file)))
+        after-block : heard_in symbol addr (min 64 (length entry / 3)) (items_at file items).list
+            ≡ after_block (λ gs. hear asked (items_at file next).list row gs)
+            (block_of symbol.0 addr.0 (room_of store) (take len (drop place file)))
         after-block =
             onward
             ∙ ap
             (λ (fs : List InlineFrame). hear asked
-            (piece kind (take len (drop place file)) ∷ (itemsAt file next).list) row fs)
+            (piece kind (take len (drop place file)) ∷ (items_at file next).list) row fs)
             (from-none 0 count store none)
-            ∙ hear-block asked (piece kind (take len (drop place file))) (itemsAt file next).list row is_Block refl
+            ∙ hear-block asked (piece kind (take len (drop place file))) (items_at file next).list row is_Block refl
             ∙ ap
-            (λ (n : ℕ). after_block (λ gs. hear asked (itemsAt file next).list row gs)
+            (λ (n : ℕ). after_block (λ gs. hear asked (items_at file next).list row gs)
             (block_of symbol.0 addr.0 (min 64 (n / 3)) (take len (drop place file))))
             (sym S.kept)
 
         pub sofar-block : r.number ≡ 0 → Sofar exit row r.count next
         sofar-block z =
-            let fs = framesOf (block_of symbol.0 addr.0 (roomOf store) (take len (drop place file))) in
+            let fs = frames_of (block_of symbol.0 addr.0 (room_of store) (take len (drop place file))) in
             record {
               kept = L.kept ∙ S.kept;
               within = count-within (take len (drop place file)) symbol.0 addr.0 store exit r L;
               same =
                   after-block
-                  ∙ ap (after_block (λ gs. hear asked (itemsAt file next).list row gs))
+                  ∙ ap (after_block (λ gs. hear asked (items_at file next).list row gs))
                   (number-zero (take len (drop place file)) symbol.0 addr.0 store exit r L z)
-                  ∙ ap (λ (gs : List InlineFrame). hear asked (itemsAt file next).list row gs)
+                  ∙ ap (λ (gs : List InlineFrame). hear asked (items_at file next).list row gs)
                   (sym (from_front fs r.count exit
                   (sym (count-is (take len (drop place file)) symbol.0 addr.0 store exit r L)) L.frames));
             }
 
         pub hears-fault :
-            (r.number ≡ 0 → ⊥) → Hears symbol addr (itemsAt file items).list entry exit (code.Refused r.number)
+            (r.number ≡ 0 → ⊥) → Hears symbol addr (items_at file items).list entry exit (code.Refused r.number)
         hears-fault z =
             refuses exit r.number (L.kept ∙ S.kept)
             (after-block
-            ∙ ap (after_block (λ gs. hear asked (itemsAt file next).list row gs))
+            ∙ ap (after_block (λ gs. hear asked (items_at file next).list row gs))
             (number-other (take len (drop place file)) symbol.0 addr.0 store exit r L z))
 
       -- any other item
@@ -172,8 +172,8 @@ module _ (symbol addr : Address) (file : List ℕ) (items : ℕ) (entry : List �
           within = S.within;
           same =
               onward
-              ∙ hear-other asked (piece kind (take len (drop place file))) (itemsAt file next).list row
-              (framesFrom 0 count store) not-Line b;
+              ∙ hear-other asked (piece kind (take len (drop place file))) (items_at file next).list row
+              (frames_from 0 count store) not-Line b;
         }
 
         pub sofar-more : (count ≡ 0 → ⊥) → Sofar store row count next
@@ -182,8 +182,8 @@ module _ (symbol addr : Address) (file : List ℕ) (items : ℕ) (entry : List �
           within = S.within;
           same =
               onward
-              ∙ hear-more asked (piece kind (take len (drop place file))) (itemsAt file next).list row
-              (framesFrom 0 count store) not-Line (omega (arith, from-length 0 count store));
+              ∙ hear-more asked (piece kind (take len (drop place file))) (items_at file next).list row
+              (frames_from 0 count store) not-Line (omega (arith, from-length 0 count store));
         }
 
 -- an item's bytes lie in the file, and its next place is past it

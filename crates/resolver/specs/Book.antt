@@ -4,7 +4,7 @@
 use Rattle.std.specs.Prelude.{ℕ, zero, suc, Bool, true, false, List, [], ◌∷◌, take, drop}
 use Rattle.strtab.specs.declared.Len.{Len}
 use Rattle.strtab.specs.declared.Len.TheVariants.{Spans, Nothing}
-use Rattle.strtab.specs.Strings.{textIn, nameIn}
+use Rattle.strtab.specs.Strings.{text_in, name_in}
 use Rattle.parser.specs.declared.Tables.{Tables}
 use Rattle.parser.specs.declared.FileInfo.{FileInfo}
 use Rattle.parser.specs.declared.FileRead.{FileRead}
@@ -15,34 +15,34 @@ pub record Book : Type 0 where
   pub strings : List ℕ
   pub files : List FileInfo
 
-abbrev pub fileRow : ℕ → ℕ → FileInfo
-fileRow dir name = record { directory = record { 0 = dir }; filename = record { 0 = name } }
+abbrev pub file_row : ℕ → ℕ → FileInfo
+file_row dir name = record { directory = record { 0 = dir }; filename = record { 0 = name } }
 
 -- n rows of the file table, one after another
-unfoldable pub filesIn : ℕ → List ℕ → List FileInfo
-filesIn zero bytes = []
-filesIn (suc n) bytes = fileRow (num_at 4 bytes 0) (num_at 4 bytes 4) ∷ filesIn n (drop 8 bytes)
+unfoldable pub files_in : ℕ → List ℕ → List FileInfo
+files_in zero bytes = []
+files_in (suc n) bytes = file_row (num_at 4 bytes 0) (num_at 4 bytes 4) ∷ files_in n (drop 8 bytes)
 
 -- the book of an opened file
-unfoldable pub bookOf : List ℕ → Tables → Book
-bookOf file t = record {
+unfoldable pub book_of : List ℕ → Tables → Book
+book_of file t = record {
   strings = take t.strings.size (drop t.strings.place file);
-  files = filesIn t.file_count (drop t.files file);
+  files = files_in t.file_count (drop t.files file);
 }
 
 -- the row at an index below the file count
-unfoldable pub nthFile : List FileInfo → ℕ → FileRead
-nthFile [] i = row.Unread
-nthFile (r ∷ rs) zero = row.Is r
-nthFile (r ∷ rs) (suc i) = nthFile rs i
+unfoldable pub nth_file : List FileInfo → ℕ → FileRead
+nth_file [] i = row.Unread
+nth_file (r ∷ rs) zero = row.Is r
+nth_file (r ∷ rs) (suc i) = nth_file rs i
 
 -- whether a string reads, and whether a name does
 abbrev pub there : Len → Bool
 there (Spans n) = true
 there Nothing = false
 
-unfoldable pub readsText : Book → ℕ → Bool
-readsText b offset = there (textIn b.strings offset)
+unfoldable pub reads_text : Book → ℕ → Bool
+reads_text b offset = there (text_in b.strings offset)
 
-unfoldable pub readsName : Book → ℕ → Bool
-readsName b offset = there (nameIn b.strings offset)
+unfoldable pub reads_name : Book → ℕ → Bool
+reads_name b offset = there (name_in b.strings offset)

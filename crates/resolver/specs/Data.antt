@@ -11,7 +11,7 @@ use Rattle.parser.specs.declared.InfoRead.{InfoRead}
 use Rattle.parser.specs.declared.InfoRead.TheVariants as info
 use Rattle.parser.specs.declared.Item.{Item}
 use Rattle.parser.specs.declared.Item.TheVariants as item
-use Rattle.parser.specs.Entries.{infoIn, infoAt}
+use Rattle.parser.specs.Entries.{info_in, info_at}
 use Rattle.parser.specs.Items.{item_at}
 
 -- an item of the address data list
@@ -43,34 +43,34 @@ abbrev pub before : Piece → Pieces → Pieces
 before p ps = record { list = p ∷ ps.list; closed = ps.closed }
 
 -- a list that begins with what stands at a place; `go` is the list from a place on
-abbrev pub afterItem : List ℕ → (ℕ → Pieces) → Item → Pieces
-afterItem file go (item.Is kind place len next) = before (piece kind (take len (drop place file))) (go next)
-afterItem file go item.Closed = record { list = []; closed = true }
-afterItem file go item.Torn = record { list = []; closed = false }
+abbrev pub after_item : List ℕ → (ℕ → Pieces) → Item → Pieces
+after_item file go (item.Is kind place len next) = before (piece kind (take len (drop place file))) (go next)
+after_item file go item.Closed = record { list = []; closed = true }
+after_item file go item.Torn = record { list = []; closed = false }
 
 -- at most k items
-unfoldable pub itemsWithin : ℕ → List ℕ → ℕ → Pieces
-itemsWithin zero file at = record { list = []; closed = false }
-itemsWithin (suc k) file at = afterItem file (λ n. itemsWithin k file n) (item_at file at)
+unfoldable pub items_within : ℕ → List ℕ → ℕ → Pieces
+items_within zero file at = record { list = []; closed = false }
+items_within (suc k) file at = after_item file (λ n. items_within k file n) (item_at file at)
 
 -- the items from a place on: each takes bytes, so that as many as bytes are left are enough
-unfoldable pub itemsAt : List ℕ → ℕ → Pieces
-itemsAt file at = itemsWithin (suc (length file - at)) file at
+unfoldable pub items_at : List ℕ → ℕ → Pieces
+items_at file at = items_within (suc (length file - at)) file at
 
 -- by what is read for size and name
-abbrev pub asData : List ℕ → InfoRead → DataRead
-asData file (info.Is a) = is (record {
+abbrev pub as_data : List ℕ → InfoRead → DataRead
+as_data file (info.Is a) = is (record {
   size = a.size;
   name = a.name.0;
-  items = (itemsAt file a.items).list;
-  closed = (itemsAt file a.items).closed;
+  items = (items_at file a.items).list;
+  closed = (items_at file a.items).closed;
 })
-asData file info.Unread = unread
+as_data file info.Unread = unread
 
 -- what stands at a place
-unfoldable pub dataAt : List ℕ → ℕ → DataRead
-dataAt file place = asData file (infoIn file place)
+unfoldable pub data_at : List ℕ → ℕ → DataRead
+data_at file place = as_data file (info_in file place)
 
 -- what an entry says: at the place that its data offset names
 unfoldable pub data_of : List ℕ → Tables → ℕ → DataRead
-data_of file t i = asData file (infoAt file t i)
+data_of file t i = as_data file (info_at file t i)

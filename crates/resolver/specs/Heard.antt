@@ -9,7 +9,7 @@ use Rattle.linetab.specs.declared.RowFound.{RowFound}
 use Rattle.linetab.specs.declared.RowFound.TheVariants as found
 use Rattle.linetab.specs.declared.LineRead.{LineRead}
 use Rattle.linetab.specs.declared.LineRead.TheVariants as line
-use Rattle.linetab.specs.Rows.{lineRow}
+use Rattle.linetab.specs.Rows.{line_row}
 use Rattle.inline.specs.Block.{Block, listed, refused, block_of}
 use Rattle.resolver.specs.Data.{Piece}
 
@@ -30,29 +30,29 @@ pub data Heard : Type 0 where
   fault : ℕ → Heard
 
 -- a line block's row, none, or that its header doesn't read, whatever the cause
-abbrev pub headerNo : ℕ
-headerNo = 9
+abbrev pub header_no : ℕ
+header_no = 9
 
-abbrev pub afterLine : (RowFound → Heard) → LineRead → Heard
-afterLine go (line.Row r) = go (found.Row r)
-afterLine go line.Nothing = go found.Nothing
-afterLine go line.Short = fault headerNo
-afterLine go line.Wide = fault headerNo
+abbrev pub after_line : (RowFound → Heard) → LineRead → Heard
+after_line go (line.Row r) = go (found.Row r)
+after_line go line.Nothing = go found.Nothing
+after_line go line.Short = fault header_no
+after_line go line.Wide = fault header_no
 
 -- type 1 is read while no row is known
-unfoldable pub hearRow : Ask → Piece → (RowFound → Heard) → RowFound → Heard
-hearRow q p go (found.Row r) = go (found.Row r)
-hearRow q p go found.Nothing =
-    pick (eqb p.kind 1) (afterLine go (lineRow p.bytes q.symbol q.addr)) (go found.Nothing)
+unfoldable pub hear_row : Ask → Piece → (RowFound → Heard) → RowFound → Heard
+hear_row q p go (found.Row r) = go (found.Row r)
+hear_row q p go found.Nothing =
+    pick (eqb p.kind 1) (after_line go (line_row p.bytes q.symbol q.addr)) (go found.Nothing)
 
 abbrev pub after_block : (List InlineFrame → Heard) → Block → Heard
 after_block go (listed fs) = go fs
 after_block go (refused n) = fault n
 
 -- type 2 is read when inlining is asked for and no frame is known yet
-unfoldable pub hearFrames : Ask → Piece → (List InlineFrame → Heard) → List InlineFrame → Heard
-hearFrames q p go (f ∷ fs) = go (f ∷ fs)
-hearFrames q p go [] =
+unfoldable pub hear_frames : Ask → Piece → (List InlineFrame → Heard) → List InlineFrame → Heard
+hear_frames q p go (f ∷ fs) = go (f ∷ fs)
+hear_frames q p go [] =
     pick (eqb p.kind 2)
     (pick q.inlining (after_block go (block_of q.symbol.0 q.addr.0 q.room p.bytes)) (go []))
     (go [])
@@ -60,4 +60,4 @@ hearFrames q p go [] =
 -- the items in list order, after a row and frames known so far
 unfoldable pub hear : Ask → List Piece → RowFound → List InlineFrame → Heard
 hear q [] r fs = known r fs
-hear q (p ∷ ps) r fs = hearRow q p (λ r. hearFrames q p (λ fs. hear q ps r fs) fs) r
+hear q (p ∷ ps) r fs = hear_row q p (λ r. hear_frames q p (λ fs. hear q ps r fs) fs) r

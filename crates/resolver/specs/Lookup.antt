@@ -9,31 +9,31 @@ use Rattle.parser.specs.declared.Opened.TheVariants as opened
 use Rattle.parser.specs.declared.Found.{Found}
 use Rattle.parser.specs.declared.Found.TheVariants as found
 use Rattle.parser.specs.Header.{opened_of}
-use Rattle.parser.specs.Search.{findOf}
+use Rattle.parser.specs.Search.{find_of}
 use Rattle.parser.specs.Entries.{symbol_at}
 use Rattle.resolver.specs.Data.{DataRead, is, unread, data_of}
-use Rattle.resolver.specs.Book.{bookOf}
-use Rattle.resolver.specs.Says.{sayOf}
+use Rattle.resolver.specs.Book.{book_of}
+use Rattle.resolver.specs.Says.{say_of}
 use Rattle.resolver.specs.Spell.{Looked, refusing, spell}
 
 -- by what an entry's data say, 5 where they don't read
 unfoldable pub answer_of : List ℕ → Tables → Address → Address → Options → ℕ → DataRead → Looked
 answer_of file t symbol addr o room (is d) =
-    spell (bookOf file t) t.strings.place symbol (sayOf (bookOf file t) symbol d addr o room)
+    spell (book_of file t) t.strings.place symbol (say_of (book_of file t) symbol d addr o room)
 answer_of file t symbol addr o room unread = refusing 5
 
 -- the answer at an entry
-unfoldable pub answerAt : List ℕ → Tables → ℕ → Address → Options → ℕ → Looked
-answerAt file t i addr o room = answer_of file t (symbol_at file t i) addr o room (data_of file t i)
+unfoldable pub answer_at : List ℕ → Tables → ℕ → Address → Options → ℕ → Looked
+answer_at file t i addr o room = answer_of file t (symbol_at file t i) addr o room (data_of file t i)
 
-unfoldable pub afterFound : List ℕ → Tables → Address → Options → ℕ → Found → Looked
-afterFound file t addr o room (found.At i) = answerAt file t i addr o room
-afterFound file t addr o room found.Unknown = refusing 1
+unfoldable pub after_found : List ℕ → Tables → Address → Options → ℕ → Found → Looked
+after_found file t addr o room (found.At i) = answer_at file t i addr o room
+after_found file t addr o room found.Unknown = refusing 1
 
-unfoldable pub afterOpened : List ℕ → Address → Options → ℕ → Opened → Looked
-afterOpened file addr o room (opened.Is t) = afterFound file t addr o room (findOf file t addr)
-afterOpened file addr o room (opened.Refused n) = refusing n
+unfoldable pub after_opened : List ℕ → Address → Options → ℕ → Opened → Looked
+after_opened file addr o room (opened.Is t) = after_found file t addr o room (find_of file t addr)
+after_opened file addr o room (opened.Refused n) = refusing n
 
 -- the answer of a file at an address, with options, and room for the frames of a block
-unfoldable pub lookupOf : List ℕ → Address → Options → (room : ℕ) → Looked
-lookupOf file addr o room = afterOpened file addr o room (opened_of file)
+unfoldable pub lookup_of : List ℕ → Address → Options → (room : ℕ) → Looked
+lookup_of file addr o room = after_opened file addr o room (opened_of file)

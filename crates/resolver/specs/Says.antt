@@ -9,9 +9,9 @@ use Rattle.types.specs.declared.InlineFrame.{InlineFrame}
 use Rattle.linetab.specs.declared.RowFound.TheVariants as found
 use Rattle.parser.specs.declared.FileRead.{FileRead}
 use Rattle.parser.specs.declared.FileRead.TheVariants as row
-use Rattle.parser.specs.Entries.{coveredBy}
+use Rattle.parser.specs.Entries.{covered_by}
 use Rattle.resolver.specs.Data.{Data}
-use Rattle.resolver.specs.Book.{Book, nthFile, readsText, readsName}
+use Rattle.resolver.specs.Book.{Book, nth_file, reads_text, reads_name}
 use Rattle.resolver.specs.Heard.{Ask, ask, Heard, known, fault, hear}
 
 -- a position: directory and file as offsets, and the line
@@ -44,16 +44,16 @@ abbrev pub site : ℕ → ℕ → ℕ → Site
 site dir file line = record { dir = dir; file = file; line = line }
 
 -- directory, then file: 8
-unfoldable pub siteIn : Book → ℕ → FileRead → SiteRead
-siteIn b line (row.Is r) =
-    pick (readsText b r.directory.0)
-    (pick (readsText b r.filename.0) (is (site r.directory.0 r.filename.0 line)) (no 8))
+unfoldable pub site_in : Book → ℕ → FileRead → SiteRead
+site_in b line (row.Is r) =
+    pick (reads_text b r.directory.0)
+    (pick (reads_text b r.filename.0) (is (site r.directory.0 r.filename.0 line)) (no 8))
     (no 8)
-siteIn b line row.Unread = no 7
+site_in b line row.Unread = no 7
 
 -- the position of a file index, 7 where it isn't below the file count, and a line
-unfoldable pub siteOf : Book → (index line : ℕ) → SiteRead
-siteOf b index line = siteIn b line (nthFile b.files index)
+unfoldable pub site_of : Book → (index line : ℕ) → SiteRead
+site_of b index line = site_in b line (nth_file b.files index)
 
 -- ---- frames
 
@@ -61,20 +61,20 @@ pub data Calls : Type 0 where
   calls : List Call → Calls
   no : ℕ → Calls
 
-abbrev pub andCall : ℕ → Site → Calls → Calls
-andCall name s (calls cs) = calls (record { name = name; site = s } ∷ cs)
-andCall name s (no n) = no n
+abbrev pub and_call : ℕ → Site → Calls → Calls
+and_call name s (calls cs) = calls (record { name = name; site = s } ∷ cs)
+and_call name s (no n) = no n
 
-abbrev pub withSite : ℕ → Calls → SiteRead → Calls
-withSite name rest (is s) = andCall name s rest
-withSite name rest (no n) = no n
+abbrev pub with_site : ℕ → Calls → SiteRead → Calls
+with_site name rest (is s) = and_call name s rest
+with_site name rest (no n) = no n
 
 -- the later frames, each with its own call site: name 6, then 7, 8, 8
 unfoldable pub calls_of : Book → List InlineFrame → Calls
 calls_of b [] = calls []
 calls_of b (f ∷ fs) =
-    pick (readsName b f.name.0)
-    (withSite f.name.0 (calls_of b fs) (siteOf b f.call_file.0 f.call_line.0))
+    pick (reads_name b f.name.0)
+    (with_site f.name.0 (calls_of b fs) (site_of b f.call_file.0 f.call_line.0))
     (no 6)
 
 -- positions move up one: the symbol gets the first later frame's call site, or the row's
@@ -89,31 +89,31 @@ raised row (c ∷ cs) = record { name = c.name; site = upper row cs } ∷ raised
 
 -- ---- the answer
 
-abbrev pub withCalls : (size name : ℕ) → Site → Calls → Said
-withCalls size name row (calls cs) = says size name (at (upper row cs)) (raised row cs)
-withCalls size name row (no n) = refuses n
+abbrev pub with_calls : (size name : ℕ) → Site → Calls → Said
+with_calls size name row (calls cs) = says size name (at (upper row cs)) (raised row cs)
+with_calls size name row (no n) = refuses n
 
 -- the first frame only replaces the symbol's name
-unfoldable pub withFrames : Book → Data → List InlineFrame → SiteRead → Said
-withFrames b d fs (no n) = refuses n
-withFrames b d [] (is row) = says d.size d.name (at row) []
-withFrames b d (f ∷ fs) (is row) =
-    pick (readsName b f.name.0) (withCalls d.size f.name.0 row (calls_of b fs)) (refuses 6)
+unfoldable pub with_frames : Book → Data → List InlineFrame → SiteRead → Said
+with_frames b d fs (no n) = refuses n
+with_frames b d [] (is row) = says d.size d.name (at row) []
+with_frames b d (f ∷ fs) (is row) =
+    pick (reads_name b f.name.0) (with_calls d.size f.name.0 row (calls_of b fs)) (refuses 6)
 
 -- no row: no position, no frames, name unchanged
-unfoldable pub afterHeard : Book → Data → Heard → Said
-afterHeard b d (known (found.Row r) fs) = withFrames b d fs (siteOf b r.file_idx.0 r.file_line.0)
-afterHeard b d (known found.Nothing fs) = says d.size d.name absent []
-afterHeard b d (fault n) = refuses n
+unfoldable pub after_heard : Book → Data → Heard → Said
+after_heard b d (known (found.Row r) fs) = with_frames b d fs (site_of b r.file_idx.0 r.file_line.0)
+after_heard b d (known found.Nothing fs) = says d.size d.name absent []
+after_heard b d (fault n) = refuses n
 
 -- with a name that reads: without code info asked for there is nothing more
-unfoldable pub sayMore : Book → Data → Ask → Bool → Said
-sayMore b d q true = afterHeard b d (hear q d.items found.Nothing [])
-sayMore b d q false = says d.size d.name absent []
+unfoldable pub say_more : Book → Data → Ask → Bool → Said
+say_more b d q true = after_heard b d (hear q d.items found.Nothing [])
+say_more b d q false = says d.size d.name absent []
 
 -- what an entry says: the size rule (1), the name (6), and what is asked for
-unfoldable pub sayOf : Book → Address → Data → Address → Options → ℕ → Said
-sayOf b symbol d addr o room =
-    pick (coveredBy addr symbol d.size)
-    (pick (readsName b d.name) (sayMore b d (ask symbol addr room o.inlining) o.code_info) (refuses 6))
+unfoldable pub say_of : Book → Address → Data → Address → Options → ℕ → Said
+say_of b symbol d addr o room =
+    pick (covered_by addr symbol d.size)
+    (pick (reads_name b d.name) (say_more b d (ask symbol addr room o.inlining) o.code_info) (refuses 6))
     (refuses 1)

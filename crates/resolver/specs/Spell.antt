@@ -6,10 +6,10 @@ use Rattle.types.specs.declared.Address.{Address}
 use Rattle.types.specs.declared.Text.{Text}
 use Rattle.types.specs.declared.Answer.{Answer}
 use Rattle.types.specs.declared.Frame.{Frame}
-use Rattle.types.specs.Refusal.{noText, refusal}
+use Rattle.types.specs.Refusal.{no_text, refusal}
 use Rattle.strtab.specs.declared.Len.{Len}
 use Rattle.strtab.specs.declared.Len.TheVariants.{Spans, Nothing}
-use Rattle.strtab.specs.Strings.{textIn, part_of}
+use Rattle.strtab.specs.Strings.{text_in, part_of}
 use Rattle.resolver.specs.Book.{Book}
 use Rattle.resolver.specs.Says.{Call, Position, at, absent, Said, says, refuses}
 
@@ -20,41 +20,41 @@ pub record Looked : Type 0 where
 
 abbrev pub text : ℕ → Len → Text
 text place (Spans n) = record { place = place; len = n }
-text place Nothing = noText
+text place Nothing = no_text
 
 -- the string at an offset of a table that stands at a place
-unfoldable pub spellText : Book → (place : ℕ) → ℕ → Text
-spellText b place offset = text (place + offset) (textIn b.strings offset)
+unfoldable pub spell_text : Book → (place : ℕ) → ℕ → Text
+spell_text b place offset = text (place + offset) (text_in b.strings offset)
 
-abbrev pub spellFrame : Book → ℕ → Call → Frame
-spellFrame b place c = record {
-  name = spellText b place c.name;
-  dir = spellText b place c.site.dir;
-  file = spellText b place c.site.file;
+abbrev pub spell_frame : Book → ℕ → Call → Frame
+spell_frame b place c = record {
+  name = spell_text b place c.name;
+  dir = spell_text b place c.site.dir;
+  file = spell_text b place c.site.file;
   line = record { 0 = c.site.line };
 }
 
 -- an answer with or without a position
-abbrev pub spellAnswer : Book → ℕ → Address → (size name : ℕ) → (count : ℕ) → Position → Answer
-spellAnswer b place symbol size name count (at s) = record {
+abbrev pub spell_answer : Book → ℕ → Address → (size name : ℕ) → (count : ℕ) → Position → Answer
+spell_answer b place symbol size name count (at s) = record {
   number = 0;
   addr = symbol;
   size = size;
-  name = spellText b place name;
+  name = spell_text b place name;
   has_code = true;
-  dir = spellText b place s.dir;
-  file = spellText b place s.file;
+  dir = spell_text b place s.dir;
+  file = spell_text b place s.file;
   line = record { 0 = s.line };
   count = count;
 }
-spellAnswer b place symbol size name count absent = record {
+spell_answer b place symbol size name count absent = record {
   number = 0;
   addr = symbol;
   size = size;
-  name = spellText b place name;
+  name = spell_text b place name;
   has_code = false;
-  dir = noText;
-  file = noText;
+  dir = no_text;
+  file = no_text;
   line = record { 0 = 0 };
   count = count;
 }
@@ -65,8 +65,8 @@ refusing n = record { answer = refusal n; frames = [] }
 
 unfoldable pub spell : Book → (place : ℕ) → Address → Said → Looked
 spell b place symbol (says size name p cs) = record {
-  answer = spellAnswer b place symbol size name (length cs) p;
-  frames = map (spellFrame b place) cs;
+  answer = spell_answer b place symbol size name (length cs) p;
+  frames = map (spell_frame b place) cs;
 }
 spell b place symbol (refuses n) = refusing n
 
@@ -90,8 +90,8 @@ pub record Shown : Type 0 where
 abbrev pub bytes_of : List ℕ → Text → List ℕ
 bytes_of file t = part_of file t.place t.len
 
-abbrev pub shownFrame : List ℕ → Frame → ShownFrame
-shownFrame file f = record {
+abbrev pub shown_frame : List ℕ → Frame → ShownFrame
+shown_frame file f = record {
   name = bytes_of file f.name;
   dir = bytes_of file f.dir;
   file = bytes_of file f.file;
@@ -110,7 +110,7 @@ shown file l = record {
     file = bytes_of file l.answer.file;
     line = l.answer.line.0;
   };
-  frames = map (shownFrame file) l.frames;
+  frames = map (shown_frame file) l.frames;
 }
 
 -- the bytes of what is said, from the book alone
@@ -118,40 +118,40 @@ abbrev pub cut : List ℕ → Len → List ℕ
 cut bytes (Spans n) = take n bytes
 cut bytes Nothing = []
 
-unfoldable pub readText : Book → ℕ → List ℕ
-readText b offset = cut (drop offset b.strings) (textIn b.strings offset)
+unfoldable pub read_text : Book → ℕ → List ℕ
+read_text b offset = cut (drop offset b.strings) (text_in b.strings offset)
 
-abbrev pub readCall : Book → Call → ShownFrame
-readCall b c = record {
-  name = readText b c.name;
-  dir = readText b c.site.dir;
-  file = readText b c.site.file;
+abbrev pub read_call : Book → Call → ShownFrame
+read_call b c = record {
+  name = read_text b c.name;
+  dir = read_text b c.site.dir;
+  file = read_text b c.site.file;
   line = c.site.line;
 }
 
-abbrev pub readSelf : Book → ℕ → Position → ShownFrame
-readSelf b name (at s) = record {
-  name = readText b name;
-  dir = readText b s.dir;
-  file = readText b s.file;
+abbrev pub read_self : Book → ℕ → Position → ShownFrame
+read_self b name (at s) = record {
+  name = read_text b name;
+  dir = read_text b s.dir;
+  file = read_text b s.file;
   line = s.line;
 }
-readSelf b name absent = record { name = readText b name; dir = []; file = []; line = 0 }
+read_self b name absent = record { name = read_text b name; dir = []; file = []; line = 0 }
 
 abbrev pub is_at : Position → Bool
 is_at (at s) = true
 is_at absent = false
 
-unfoldable pub readSaid : Book → Address → Said → Shown
-readSaid b symbol (says size name p cs) = record {
+unfoldable pub read_said : Book → Address → Said → Shown
+read_said b symbol (says size name p cs) = record {
   number = 0;
   addr = symbol.0;
   size = size;
   has-code = is_at p;
-  self = readSelf b name p;
-  frames = map (readCall b) cs;
+  self = read_self b name p;
+  frames = map (read_call b) cs;
 }
-readSaid b symbol (refuses n) = record {
+read_said b symbol (refuses n) = record {
   number = n;
   addr = 0;
   size = 0;

@@ -1,8 +1,8 @@
 // The row and the frames of an entry's items (document 01, "Address data list"): line blocks are read while no row is
 // known, inline blocks while no frame is. The first fault in list order refuses, even if no row comes later.
 ghost use Rattle.std.specs.Prelude.{◌≡◌};
-ghost use Rattle.resolver.specs.Data.{itemsAt};
-ghost use Rattle.resolver.specs.Stages.{lineHeard};
+ghost use Rattle.resolver.specs.Data.{items_at};
+ghost use Rattle.resolver.specs.Stages.{line_heard};
 ghost use Rattle.resolver.specs.Rows.{Hears};
 
 use super::rows::LINE_TABLE;
@@ -29,7 +29,7 @@ pub(crate) enum CodeRead {
 
 // A line block, after the row known so far: it is read while none is.
 fn hear_line(block: &[u8], symbol: Address, addr: Address, row: RowFound) -> LineHeard
-    ensures { result ≡ lineHeard block.now symbol addr row }
+    ensures { result ≡ line_heard block.now symbol addr row }
 {
     match row {
         RowFound::Row(_) => LineHeard::Is(row),
@@ -51,7 +51,7 @@ pub(crate) fn code_in(
     addr: Address,
     store: &mut [u32],
 ) -> CodeRead
-    ensures { Hears symbol addr (itemsAt file.now items).list store.old store.new result }
+    ensures { Hears symbol addr (items_at file.now items).list store.old store.new result }
 {
     let mut row = RowFound::Nothing;
     let mut count = 0;

@@ -1,7 +1,7 @@
 // Where an address lands: the tables (2, 3, 4), the entry (1), its information (5), its size (1) and its name (6), in
 // document 01's order ("Finding the entry").
 ghost use Rattle.std.specs.Prelude.{◌≡◌};
-ghost use Rattle.resolver.specs.Stages.{entry_at, landingOf};
+ghost use Rattle.resolver.specs.Stages.{entry_at, landing_of};
 
 use super::Entry;
 use parser::{Found, InfoRead, Opened, Tables};
@@ -53,7 +53,7 @@ fn entry_of(file: &[u8], tables: Tables, i: usize, addr: Address) -> EntryRead
 
 // The entry of an address in a file.
 pub(crate) fn land(file: &[u8], addr: Address) -> Landing
-    ensures { result ≡ landingOf file.now addr }
+    ensures { result ≡ landing_of file.now addr }
 {
     match parser::parse_header(file) {
         Opened::Is(tables) => match parser::find_addr(file, tables, addr) {

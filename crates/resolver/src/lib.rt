@@ -15,9 +15,9 @@ mod sites;
 
 ghost use Rattle.std.specs.Prelude.{true, false, ◌≡◌, ◌/◌, ◌*◌, ◌+◌, ◌≤◌, ◌<◌, min, length};
 ghost use Rattle.parser.specs.Header.{Within};
-ghost use Rattle.resolver.specs.Lookup.{lookupOf};
-ghost use Rattle.resolver.specs.Stages.{plainAnswer, answerWith, rowRest, plainOptions, allOptions};
-ghost use Rattle.resolver.specs.Rows.{recordsIn, Writes, WritesNamed, Wrote, Looks};
+ghost use Rattle.resolver.specs.Lookup.{lookup_of};
+ghost use Rattle.resolver.specs.Stages.{plain_answer, answer_with, row_rest, plain_options, all_options};
+ghost use Rattle.resolver.specs.Rows.{records_in, Writes, WritesNamed, Wrote, Looks};
 
 use items::{CodeRead, code_in};
 use landing::{Landing, land};
@@ -48,7 +48,7 @@ pub(crate) struct Place {
 
 // The symbol without a position.
 fn plain(entry: Entry) -> Answer
-    ensures { result ≡ plainAnswer entry }
+    ensures { result ≡ plain_answer entry }
 {
     let addr = entry.symbol;
     let name = entry.name;
@@ -67,7 +67,7 @@ fn plain(entry: Entry) -> Answer
 
 // The symbol under a name, at a position, with so many records written.
 fn placed(entry: Entry, name: Text, at: Place, count: usize) -> Answer
-    ensures { result ≡ answerWith entry name at count }
+    ensures { result ≡ answer_with entry name at count }
 {
     let addr = entry.symbol;
     let dir = at.dir;
@@ -89,7 +89,7 @@ fn placed(entry: Entry, name: Text, at: Place, count: usize) -> Answer
 // The symbol with its row's position, if there is a row. `lookup_plain` has opened the tables.
 fn with_row(file: &[u8], tables: Tables, entry: Entry, addr: Address) -> Answer
     requires { Within file.now tables }
-    ensures { result ≡ rowRest file.now tables entry addr }
+    ensures { result ≡ row_rest file.now tables entry addr }
 {
     let items = entry.items;
     let symbol = entry.symbol;
@@ -111,7 +111,7 @@ fn with_row(file: &[u8], tables: Tables, entry: Entry, addr: Address) -> Answer
 // The symbol of an address, with its position if code info is asked for, and without inlined calls: nothing is kept for
 // frames. Refused with 1 to 9.
 pub fn lookup_plain(file: &[u8], addr: Address, code_info: bool) -> Answer
-    ensures { result ≡ (lookupOf file.now addr (plainOptions code_info) 0).answer }
+    ensures { result ≡ (lookup_of file.now addr (plain_options code_info) 0).answer }
 {
     match land(file, addr) {
         Landing::On { tables, entry } => {
@@ -221,7 +221,7 @@ fn numbers_for(len: usize) -> usize
 
 // The symbol of an address with position and inlined calls.
 fn lookup_frames(file: &[u8], addr: Address, store: &mut [u64]) -> Answer
-    ensures { Wrote (lookupOf file.now addr allOptions (recordsIn store.old))
+    ensures { Wrote (lookup_of file.now addr all_options (records_in store.old))
         store.old store.new result }
 {
     match land(file, addr) {

@@ -1,7 +1,7 @@
 // The row of an entry's items where no frames are wanted (document 01, "Address data list"): the first line block that
 // has one. Later items can't refuse then, so they are not read.
 ghost use Rattle.std.specs.Prelude.{◌≡◌};
-ghost use Rattle.resolver.specs.Data.{itemsAt};
+ghost use Rattle.resolver.specs.Data.{items_at};
 ghost use Rattle.resolver.specs.Stages.{row_in};
 
 use linetab::{LineRead, LineTableRow};
@@ -21,7 +21,7 @@ pub(crate) enum RowRead {
 
 // The row of `addr` in the items from `items` on.
 pub(crate) fn row_in(file: &[u8], items: usize, symbol: Address, addr: Address) -> RowRead
-    ensures { result ≡ row_in symbol addr (itemsAt file.now items).list }
+    ensures { result ≡ row_in symbol addr (items_at file.now items).list }
 {
     let mut at = items;
     loop {

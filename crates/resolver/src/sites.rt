@@ -3,7 +3,7 @@
 ghost use Rattle.std.specs.Prelude.{◌≡◌, ◌+◌, ◌*◌, ◌≤◌, length};
 ghost use Rattle.parser.specs.Header.{Within};
 ghost use Rattle.inline.specs.Store.{frame_at};
-ghost use Rattle.resolver.specs.Stages.{place_in, placeAt, call_at};
+ghost use Rattle.resolver.specs.Stages.{place_in, place_at, call_at};
 
 use super::Place;
 use parser::{FileRead, Tables};
@@ -28,7 +28,7 @@ pub(crate) enum CallRead {
 // file that doesn't read is 8. The callers have opened the tables.
 pub(crate) fn site_at(file: &[u8], tables: Tables, index: FileIndex, line: LineNumber) -> PlaceRead
     requires { Within file.now tables }
-    ensures { result ≡ placeAt file.now tables index.0 line.0 }
+    ensures { result ≡ place_at file.now tables index.0 line.0 }
 {
     match parser::file_info(file, tables, index) {
         FileRead::Is(info) => {

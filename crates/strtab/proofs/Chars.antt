@@ -10,8 +10,8 @@ use lib.Seq.{drop-cons, drop-drop, length-take-le}
 use native.Mathlib.Omega.{arith}
 use Rattle.reads.specs.Pick.{pick}
 use Rattle.strtab.specs.Utf8.{Range, range, within, tail, Start, starts, nowhere, begun}
-use Rattle.strtab.specs.Utf8.{followers, octets, utf8, sequenceLen}
-use Rattle.strtab.specs.Steps.{second, met, sized, charLen}
+use Rattle.strtab.specs.Utf8.{followers, octets, utf8, sequence_len}
+use Rattle.strtab.specs.Steps.{second, met, sized, char_len}
 use Rattle.reads.proofs.Orders.{lt-or-ge}
 use Rattle.strtab.proofs.Ranges.{in-range}
 use Rattle.strtab.proofs.Leading.{shape, followers-shape, followers-ascii, sequence-len-le}
@@ -75,14 +75,14 @@ module _ (s : List ℕ) (i : ℕ) (h : i < length s) where
   unfolding utf8 octets
   utf8-at = rw (drop-cons s i 0 h)
 
-  pub char-at : charLen (drop i s) ≡ sized (followers (get_or s i 0)) (drop (suc i) s)
-  unfolding charLen
+  pub char-at : char_len (drop i s) ≡ sized (followers (get_or s i 0)) (drop (suc i) s)
+  unfolding char_len
   char-at = rw (drop-cons s i 0 h)
 
-  pub utf8-none : (n : ℕ) → n ≡ charLen (drop i s) → n ≡ 0 → utf8 (drop i s) ≡ false
+  pub utf8-none : (n : ℕ) → n ≡ char_len (drop i s) → n ≡ 0 → utf8 (drop i s) ≡ false
   utf8-none n e z = utf8-at ∙ start_none (drop (suc i) s) (followers (get_or s i 0)) (sym char-at ∙ sym e ∙ z)
 
-  pub utf8-next : (n : ℕ) → n ≡ charLen (drop i s) → (n ≡ 0 → ⊥) → utf8 (drop i s) ≡ utf8 (drop (i + n) s)
+  pub utf8-next : (n : ℕ) → n ≡ char_len (drop i s) → (n ≡ 0 → ⊥) → utf8 (drop i s) ≡ utf8 (drop (i + n) s)
   utf8-next n e z =
       let j : suc i + (n - 1) ≡ i + n = omega arith in
       utf8-at ∙ start-next (drop (suc i) s) (followers (get_or s i 0)) n (sym char-at ∙ sym e) (omega arith)
@@ -101,7 +101,7 @@ module _ (s : List ℕ) (i : ℕ) (h : i < length s) where
   start_fits (starts rs) n e z = met-fits rs n e z
   start_fits nowhere n e z = absurd (omega arith)
 
-  pub char-fits : (n : ℕ) → n ≡ charLen (drop i s) → (n ≡ 0 → ⊥) → i + n ≤ length s
+  pub char-fits : (n : ℕ) → n ≡ char_len (drop i s) → (n ≡ 0 → ⊥) → i + n ≤ length s
   char-fits n e z = start_fits (followers (get_or s i 0)) n (sym char-at ∙ sym e) (omega arith)
 
 -- ------------------------------------------------------------------------------------------------
@@ -111,7 +111,7 @@ module _ (s : List ℕ) (i : ℕ) (h : i < length s) where
 pub record Lead (s : List ℕ) (i n : ℕ) : Type 0 where
   pub inside : i < length s
   pub byte : get_or s i 0 < 256
-  pub sequence : n ≡ sequenceLen (get_or s i 0)
+  pub sequence : n ≡ sequence_len (get_or s i 0)
 
 -- and there are that many, the second a right one
 pub record Twos (s : List ℕ) (i n : ℕ) : Type 0 where
@@ -133,12 +133,12 @@ module _ {s : List ℕ} {i n : ℕ} where
   few : Lead s i n → n ≤ 4
   few h = rw h.sequence (sequence-len-le (get_or s i 0) h.byte)
 
-  opened : Lead s i n → (m : ℕ) → n ≡ m → charLen (drop i s) ≡ sized (shape m (get_or s i 0)) (drop (suc i) s)
+  opened : Lead s i n → (m : ℕ) → n ≡ m → char_len (drop i s) ≡ sized (shape m (get_or s i 0)) (drop (suc i) s)
   opened h m q =
       let e = followers-shape (get_or s i 0) h.byte ∙ ap (λ k. shape k (get_or s i 0)) (sym h.sequence ∙ q) in
       char-at s i h.inside ∙ ap (λ st. sized st (drop (suc i) s)) e
 
-  pub one-is : Lead s i n → n < 2 → n ≡ charLen (drop i s)
+  pub one-is : Lead s i n → n < 2 → n ≡ char_len (drop i s)
   unfolding met
   one-is h l =
       ⊎_elim
@@ -146,7 +146,7 @@ module _ {s : List ℕ} {i n : ℕ} where
       (λ (k : 1 ≤ n). let q : n ≡ 1 = omega arith in q ∙ sym (opened h 1 q))
       (lt-or-ge n 1)
 
-  pub cut : Lead s i n → 2 ≤ n → length s - i < n → 0 ≡ charLen (drop i s)
+  pub cut : Lead s i n → 2 ≤ n → length s - i < n → 0 ≡ char_len (drop i s)
   cut h l k =
       let q : n ≡ suc (n - 1) = omega arith in
       let most : List Range = second (get_or s i 0) ∷ tail ∷ tail ∷ [] in
@@ -155,21 +155,21 @@ module _ {s : List ℕ} {i n : ℕ} where
       rw (opened h (suc (n - 1)) q, m)
 
   pub second-wrong : Lead s i n → 2 ≤ n → n ≤ length s - i →
-      within (second (get_or s i 0)) (get_or s (i + 1) 0) ≡ false → 0 ≡ charLen (drop i s)
+      within (second (get_or s i 0)) (get_or s (i + 1) 0) ≡ false → 0 ≡ char_len (drop i s)
   unfolding met
   second-wrong h k l b =
       let q : n ≡ suc (suc (n - 2)) = omega arith in
       let b₂ = after-byte s i (i + 1) (omega arith) (omega arith) in
       rw (opened h (suc (suc (n - 2))) q, b₂, b)
 
-  pub two-are : Twos s i n → n < 3 → n ≡ charLen (drop i s)
+  pub two-are : Twos s i n → n < 3 → n ≡ char_len (drop i s)
   unfolding met
   two-are h t =
       let q : n ≡ 2 = omega (arith, h.several) in
       let b₂ = after-byte s i (i + 1) (omega arith) (omega (arith, h.room)) in
       q ∙ rw (opened h.lead 2 q, b₂, h.second_is)
 
-  pub third-wrong : Twos s i n → 3 ≤ n → within tail (get_or s (i + 2) 0) ≡ false → 0 ≡ charLen (drop i s)
+  pub third-wrong : Twos s i n → 3 ≤ n → within tail (get_or s (i + 2) 0) ≡ false → 0 ≡ char_len (drop i s)
   unfolding met
   third-wrong h k d =
       let q : n ≡ suc (suc (suc (n - 3))) = omega arith in
@@ -177,7 +177,7 @@ module _ {s : List ℕ} {i n : ℕ} where
       let b₃ = after-byte s (i + 1) (i + 2) (omega arith) (omega (arith, h.room)) in
       rw (opened h.lead (suc (suc (suc (n - 3)))) q, b₂, h.second_is, b₃, d)
 
-  pub three-are : Threes s i n → n < 4 → n ≡ charLen (drop i s)
+  pub three-are : Threes s i n → n < 4 → n ≡ char_len (drop i s)
   unfolding met
   three-are h t =
       let w = h.twos in
@@ -186,7 +186,7 @@ module _ {s : List ℕ} {i n : ℕ} where
       let b₃ = after-byte s (i + 1) (i + 2) (omega arith) (omega (arith, w.room)) in
       q ∙ rw (opened w.lead 3 q, b₂, w.second_is, b₃, h.third-is)
 
-  pub fourth-wrong : Threes s i n → 4 ≤ n → within tail (get_or s (i + 3) 0) ≡ false → 0 ≡ charLen (drop i s)
+  pub fourth-wrong : Threes s i n → 4 ≤ n → within tail (get_or s (i + 3) 0) ≡ false → 0 ≡ char_len (drop i s)
   unfolding met
   fourth-wrong h k f =
       let w = h.twos in
@@ -196,7 +196,7 @@ module _ {s : List ℕ} {i n : ℕ} where
       let b₄ = after-byte s (i + 2) (i + 3) (omega arith) (omega (arith, w.room)) in
       rw (opened w.lead 4 q, b₂, w.second_is, b₃, h.third-is, b₄, f)
 
-  pub four_are : Threes s i n → 4 ≤ n → within tail (get_or s (i + 3) 0) ≡ true → n ≡ charLen (drop i s)
+  pub four_are : Threes s i n → 4 ≤ n → within tail (get_or s (i + 3) 0) ≡ true → n ≡ char_len (drop i s)
   unfolding met
   four_are h k f =
       let w = h.twos in

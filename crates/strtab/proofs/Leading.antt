@@ -9,7 +9,7 @@ use lib.Dec.{T, eqb, eqb→eq, leb, leb→le}
 use lib.ListN.{take, replicate}
 use native.Mathlib.Omega.{arith}
 use borrow.Author.Tests.{le-leb}
-use Rattle.strtab.specs.Utf8.{Range, range, tail, Start, starts, nowhere, followers, sequenceLen, size_of}
+use Rattle.strtab.specs.Utf8.{Range, range, tail, Start, starts, nowhere, followers, sequence_len, size_of}
 use Rattle.strtab.specs.Steps.{second}
 use Rattle.reads.proofs.Orders.{lt-or-ge}
 use Rattle.strtab.proofs.Ranges.{over-range}
@@ -20,14 +20,14 @@ bytes : List ℕ
 bytes = replicate 256 0
 
 sizes : ℕ → ℕ → Bool
-sizes b x = eqb (sequenceLen b) (size_of (followers b))
+sizes b x = eqb (sequence_len b) (size_of (followers b))
 
 -- the length by ranges is 1 and the number of bytes that must follow, or 0 where no character starts so
-pub sequence-len-size : (b : ℕ) → sequenceLen b ≡ size_of (followers b)
-unfolding bytes sizes sequenceLen followers
+pub sequence-len-size : (b : ℕ) → sequence_len b ≡ size_of (followers b)
+unfolding bytes sizes sequence_len followers
 sequence-len-size b =
     ⊎_elim
-    (λ (l : b < 256). eqb→eq (sequenceLen b) (size_of (followers b)) (at sizes bytes tt b l))
+    (λ (l : b < 256). eqb→eq (sequence_len b) (size_of (followers b)) (at sizes bytes tt b l))
     (λ (l : 256 ≤ b).
     rw (
       over-range 0x00 0x7f b (omega arith),
@@ -90,15 +90,15 @@ shape zero b = nowhere
 shape (suc k) b = starts (take k (second b ∷ tail ∷ tail ∷ []))
 
 shaped : ℕ → ℕ → Bool
-shaped b x = alike (followers b) (shape (sequenceLen b) b)
+shaped b x = alike (followers b) (shape (sequence_len b) b)
 
-pub followers-shape : (b : ℕ) → b < 256 → followers b ≡ shape (sequenceLen b) b
-unfolding bytes shaped alike alikes followers sequenceLen second
-followers-shape b h = alike-eq (followers b) (shape (sequenceLen b) b) (at shaped bytes tt b h)
+pub followers-shape : (b : ℕ) → b < 256 → followers b ≡ shape (sequence_len b) b
+unfolding bytes shaped alike alikes followers sequence_len second
+followers-shape b h = alike-eq (followers b) (shape (sequence_len b) b) (at shaped bytes tt b h)
 
 small : ℕ → ℕ → Bool
-small b x = leb (sequenceLen b) 4
+small b x = leb (sequence_len b) 4
 
-pub sequence-len-le : (b : ℕ) → b < 256 → sequenceLen b ≤ 4
-unfolding bytes small sequenceLen
-sequence-len-le b h = leb→le (sequenceLen b) 4 (at small bytes tt b h)
+pub sequence-len-le : (b : ℕ) → b < 256 → sequence_len b ≤ 4
+unfolding bytes small sequence_len
+sequence-len-le b h = leb→le (sequence_len b) 4 (at small bytes tt b h)

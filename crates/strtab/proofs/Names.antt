@@ -13,8 +13,8 @@ use borrow.Author.Tests.{eq-eqb, eqb-true, eqb-false}
 use Rattle.reads.specs.Pick.{pick}
 use Rattle.strtab.specs.Utf8.{Range, range, within, Start, starts, nowhere, characters, after}
 use Rattle.strtab.specs.Utf8.{begun, followers, octets, utf8}
-use Rattle.strtab.specs.Steps.{met, sized, charLen}
-use Rattle.strtab.specs.Strings.{longer, beforeZero, judged, nameIn}
+use Rattle.strtab.specs.Steps.{met, sized, char_len}
+use Rattle.strtab.specs.Strings.{longer, before_zero, judged, name_in}
 use Rattle.strtab.specs.declared.Len.{Len}
 use Rattle.strtab.specs.declared.Len.TheVariants.{Spans, Nothing}
 use Rattle.strtab.proofs.Ranges.{in-range}
@@ -63,7 +63,7 @@ weighed rs bs (Spans n) = pick (octets rs (take n bs)) (Spans n) Nothing
 weighed rs bs Nothing = Nothing
 
 pub named : List Range → List ℕ → Len
-named rs bs = weighed rs bs (beforeZero bs)
+named rs bs = weighed rs bs (before_zero bs)
 
 longer-pick : (n : ℕ) (t : Bool) (l : Len) → longer n (pick t l Nothing) ≡ pick t (longer n l) Nothing
 longer-pick n true l = refl
@@ -91,15 +91,15 @@ module _ (b : ℕ) (bs : List ℕ) (d : b ≡ 0 → ⊥) where
 
   owed : (r : Range) (rs : List Range) → named (r ∷ rs) (b ∷ bs) ≡ pick (within r b) (longer 1 (named rs bs)) Nothing
   unfolding named
-  owed r rs = ap (weighed (r ∷ rs) (b ∷ bs)) (text-more b bs d) ∙ owed-len r rs (beforeZero bs)
+  owed r rs = ap (weighed (r ∷ rs) (b ∷ bs)) (text-more b bs d) ∙ owed-len r rs (before_zero bs)
 
 named-nil : (rs : List Range) → named rs [] ≡ Nothing
-unfolding named beforeZero
+unfolding named before_zero
 named-nil rs = refl
 
 -- a zero byte where more is owed
 owed-zero : (r : Range) (rs : List Range) (b : ℕ) (bs : List ℕ) → b ≡ 0 → named (r ∷ rs) (b ∷ bs) ≡ Nothing
-unfolding named octets beforeZero
+unfolding named octets before_zero
 owed-zero r rs b bs e = rw (eq-eqb _ _ e)
 
 not-zero : (t : Bool) → T (not t) → t ≡ false
@@ -158,15 +158,15 @@ module _ (b : ℕ) (bs : List ℕ) (d : b ≡ 0 → ⊥) where
   start-len (Spans m) = rw (one_more b bs d m) (onward-spans (followers b) m)
   start-len Nothing = onward-nothing (followers b)
 
-  named_start : named [] (b ∷ bs) ≡ onward (followers b) bs (beforeZero bs)
+  named_start : named [] (b ∷ bs) ≡ onward (followers b) bs (before_zero bs)
   unfolding named
-  named_start = ap (weighed [] (b ∷ bs)) (text-more b bs d) ∙ start-len (beforeZero bs)
+  named_start = ap (weighed [] (b ∷ bs)) (text-more b bs d) ∙ start-len (before_zero bs)
 
 pub name-byte : (b : ℕ) (bs : List ℕ) → within (range 1 0x7f) b ≡ true → named [] (b ∷ bs) ≡ longer 1 (named [] bs)
 unfolding named
 name-byte b bs w =
     let i = in-range 1 0x7f b w in
-    named_start b bs (λ z. omega arith) ∙ ap (λ st. onward st bs (beforeZero bs)) (followers-ascii b i.1)
+    named_start b bs (λ z. omega arith) ∙ ap (λ st. onward st bs (before_zero bs)) (followers-ascii b i.1)
 
 -- by the character's length
 module _ (bs : List ℕ) where
@@ -183,14 +183,14 @@ module _ (bs : List ℕ) where
       ∙ ap (λ j. longer n (named [] (drop j bs))) q
   carry-on false k n e z = absurd (z (sym e))
 
-  onward-none : (st : Start) → T (start-high st) → sized st bs ≡ 0 → onward st bs (beforeZero bs) ≡ Nothing
+  onward-none : (st : Start) → T (start-high st) → sized st bs ≡ 0 → onward st bs (before_zero bs) ≡ Nothing
   unfolding start-high named
   onward-none (starts rs) h e =
       ap (longer 1) (named-met rs bs h) ∙ cut_off (met rs bs) (length rs) (named [] (drop (length rs) bs)) e
   onward-none nowhere h e = refl
 
   onward-next : (st : Start) (n : ℕ) → T (start-high st) → sized st bs ≡ n → (n ≡ 0 → ⊥) →
-      onward st bs (beforeZero bs) ≡ longer n (named [] (drop (n - 1) bs))
+      onward st bs (before_zero bs) ≡ longer n (named [] (drop (n - 1) bs))
   unfolding start-high named
   onward-next (starts rs) n h e z = ap (longer 1) (named-met rs bs h) ∙ carry-on (met rs bs) (length rs) n e z
   onward-next nowhere n h e z = absurd (z (sym e))
@@ -204,29 +204,29 @@ module _ (s : List ℕ) (i : ℕ) where
   judged-named (Spans n) = refl
   judged-named Nothing = refl
 
-  pub name-begin : nameIn s i ≡ named [] (drop i s)
-  unfolding nameIn named
-  name-begin = ap (judged (drop i s)) (text-begin s i) ∙ judged-named (beforeZero (drop i s))
+  pub name-begin : name_in s i ≡ named [] (drop i s)
+  unfolding name_in named
+  name-begin = ap (judged (drop i s)) (text-begin s i) ∙ judged-named (before_zero (drop i s))
 
   pub name-over : length s ≤ i → named [] (drop i s) ≡ Nothing
   name-over l = rw (drop_of_length-le s l) (named-nil [])
 
   module _ (h : i < length s) where
     pub name-zero : get_or s i 0 ≡ 0 → named [] (drop i s) ≡ Spans 0
-    unfolding named octets beforeZero
+    unfolding named octets before_zero
     name-zero e = rw (drop-cons s i 0 h, eq-eqb _ _ e)
 
     module _ (d : get_or s i 0 ≡ 0 → ⊥) where
-      named-at : named [] (drop i s) ≡ onward (followers (get_or s i 0)) (drop (suc i) s) (beforeZero (drop (suc i) s))
+      named-at : named [] (drop i s) ≡ onward (followers (get_or s i 0)) (drop (suc i) s) (before_zero (drop (suc i) s))
       named-at = ap (named []) (drop-cons s i 0 h) ∙ named_start (get_or s i 0) (drop (suc i) s) d
 
-      pub name-none : (n : ℕ) → n ≡ charLen (drop i s) → n ≡ 0 → named [] (drop i s) ≡ Nothing
+      pub name-none : (n : ℕ) → n ≡ char_len (drop i s) → n ≡ 0 → named [] (drop i s) ≡ Nothing
       name-none n e z =
           named-at
           ∙ onward-none (drop (suc i) s) (followers (get_or s i 0)) (followers-high (get_or s i 0))
           (sym (char-at s i h) ∙ sym e ∙ z)
 
-      pub name-next : (n : ℕ) → n ≡ charLen (drop i s) → (n ≡ 0 → ⊥) →
+      pub name-next : (n : ℕ) → n ≡ char_len (drop i s) → (n ≡ 0 → ⊥) →
           named [] (drop i s) ≡ longer n (named [] (drop (i + n) s))
       name-next n e z =
           let j : suc i + (n - 1) ≡ i + n = omega arith in

@@ -8,7 +8,7 @@ use lib.ListN.{length, get_or, drop, drop_of_length-le}
 use lib.Seq.{drop-cons}
 use native.Mathlib.Omega.{arith}
 use borrow.Author.Tests.{lt-ltb, le-ltb, eq-eqb, ne_eqb}
-use Rattle.strtab.specs.Strings.{longer, beforeZero, textIn}
+use Rattle.strtab.specs.Strings.{longer, before_zero, text_in}
 use Rattle.strtab.specs.declared.Len.{Len}
 use Rattle.strtab.specs.declared.Len.TheVariants.{Spans, Nothing}
 use Rattle.reads.proofs.Orders.{lt-or-ge}
@@ -52,23 +52,23 @@ module _ {whole : Len} {read : List ℕ → Len} {s : List ℕ} {at i : ℕ} (h 
 -- ------------------------------------------------------------------------------------------------
 -- a string
 
-pub text-begin : (s : List ℕ) (at : ℕ) → textIn s at ≡ beforeZero (drop at s)
-unfolding textIn beforeZero
+pub text-begin : (s : List ℕ) (at : ℕ) → text_in s at ≡ before_zero (drop at s)
+unfolding text_in before_zero
 text-begin s at =
     ⊎_elim
     (λ (l : at < length s). rw (lt-ltb _ _ l))
     (λ (l : length s ≤ at). rw (le-ltb _ _ l, drop_of_length-le s l))
     (lt-or-ge at (length s))
 
-pub text-more : (b : ℕ) (bs : List ℕ) → (b ≡ 0 → ⊥) → beforeZero (b ∷ bs) ≡ longer 1 (beforeZero bs)
-unfolding beforeZero
+pub text-more : (b : ℕ) (bs : List ℕ) → (b ≡ 0 → ⊥) → before_zero (b ∷ bs) ≡ longer 1 (before_zero bs)
+unfolding before_zero
 text-more b bs d = rw (ne_eqb _ _ d)
 
 module _ (s : List ℕ) (i : ℕ) where
-  pub text-over : length s ≤ i → beforeZero (drop i s) ≡ Nothing
-  unfolding beforeZero
+  pub text-over : length s ≤ i → before_zero (drop i s) ≡ Nothing
+  unfolding before_zero
   text-over l = rw (drop_of_length-le s l)
 
-  pub text-zero : i < length s → get_or s i 0 ≡ 0 → beforeZero (drop i s) ≡ Spans 0
-  unfolding beforeZero
+  pub text-zero : i < length s → get_or s i 0 ≡ 0 → before_zero (drop i s) ≡ Spans 0
+  unfolding before_zero
   text-zero l e = rw (drop-cons s i 0 l, eq-eqb _ _ e)

@@ -15,8 +15,8 @@ use Rattle.reads.specs.Pick.{pick}
 use Rattle.types.specs.declared.StrOffset.{StrOffset}
 use Rattle.types.specs.declared.Text.{Text}
 use Rattle.strtab.specs.Utf8.{utf8}
-use Rattle.strtab.specs.Strings.{part_of, longer, beforeZero, judged, textIn, nameIn, placed, in_table}
-use Rattle.strtab.specs.Strings.{textAt, name_at}
+use Rattle.strtab.specs.Strings.{part_of, longer, before_zero, judged, text_in, name_in, placed, in_table}
+use Rattle.strtab.specs.Strings.{text_at, name_at}
 use Rattle.strtab.specs.declared.StrTable.{StrTable}
 use Rattle.strtab.specs.declared.TextRead.TheVariants.{Is, Unread}
 use Rattle.strtab.specs.declared.Len.{Len}
@@ -47,30 +47,30 @@ zero-ended-cons b bs n d h =
     before zero l e = d e
     before (suc k) l e = h.none_before k (omega arith) e
 
-pub before-zero-is : (bs : List ℕ) (n : ℕ) → beforeZero bs ≡ Spans n → ZeroEnded bs n
-unfolding beforeZero
+pub before-zero-is : (bs : List ℕ) (n : ℕ) → before_zero bs ≡ Spans n → ZeroEnded bs n
+unfolding before_zero
 before-zero-is [] n e = let z : ◌≡◌ {A = ℕ} 0 1 = cc in never z
 before-zero-is (b ∷ bs) n e = go (before-zero-is bs) (eqb b 0) refl e
   where
-    go : ((m : ℕ) → beforeZero bs ≡ Spans m → ZeroEnded bs m) →
-        (t : Bool) → eqb b 0 ≡ t → pick t (Spans 0) (longer 1 (beforeZero bs)) ≡ Spans n → ZeroEnded (b ∷ bs) n
+    go : ((m : ℕ) → before_zero bs ≡ Spans m → ZeroEnded bs m) →
+        (t : Bool) → eqb b 0 ≡ t → pick t (Spans 0) (longer 1 (before_zero bs)) ≡ Spans n → ZeroEnded (b ∷ bs) n
     go h true q e =
         let p : 0 ≡ n = cc in
         rw (← p)
         (record { inside = omega arith; zero-after = eqb-true b 0 q; none_before = λ k l x. absurd (omega arith) })
     go h false q e =
-        let p = longer-is (beforeZero bs) n e in
+        let p = longer-is (before_zero bs) n e in
         rw p.1 (zero-ended-cons b bs (n - 1) (eqb-false b 0 q) (h (n - 1) p.0))
 
 -- ------------------------------------------------------------------------------------------------
 -- in the table's own bytes
 module _ (s : List ℕ) (at n : ℕ) where
-  pub text_in-is : textIn s at ≡ Spans n → (at + n < length s) × ZeroEnded (drop at s) n
-  unfolding textIn
+  pub text_in-is : text_in s at ≡ Spans n → (at + n < length s) × ZeroEnded (drop at s) n
+  unfolding text_in
   text_in-is e =
       ⊎_elim
       (λ (l : at < length s).
-      let e' : beforeZero (drop at s) ≡ Spans n = simp (lt-ltb _ _ l) at e in
+      let e' : before_zero (drop at s) ≡ Spans n = simp (lt-ltb _ _ l) at e in
       let z = before-zero-is (drop at s) n e' in
       (omega (arith, z.inside, length-drop at s), z))
       (λ (l : length s ≤ at).
@@ -87,18 +87,18 @@ module _ (s : List ℕ) (at n : ℕ) where
       go true q e = let k : n ≡ m = cc in (e, ap (λ j. utf8 (take j (drop at s))) k ∙ q)
       go false q e = let z : ◌≡◌ {A = ℕ} 0 1 = cc in never z
 
-  pub name-in-is : nameIn s at ≡ Spans n → (textIn s at ≡ Spans n) × (utf8 (take n (drop at s)) ≡ true)
-  unfolding nameIn
-  name-in-is e = judged-is (textIn s at) e
+  pub name-in-is : name_in s at ≡ Spans n → (text_in s at ≡ Spans n) × (utf8 (take n (drop at s)) ≡ true)
+  unfolding name_in
+  name-in-is e = judged-is (text_in s at) e
 
 -- a reader of the table's bytes whose strings lie inside them
 abbrev pub Inside : (List ℕ → ℕ → Len) → Type 0
 Inside read = (s : List ℕ) (at n : ℕ) → read s at ≡ Spans n → at + n < length s
 
-pub text_in-inside : Inside textIn
+pub text_in-inside : Inside text_in
 text_in-inside s at n e = (text_in-is s at n e).0
 
-pub name-in-inside : Inside nameIn
+pub name-in-inside : Inside name_in
 name-in-inside s at n e = (text_in-is s at n (name-in-is s at n e).0).0
 
 -- ------------------------------------------------------------------------------------------------
@@ -163,19 +163,19 @@ module _ (file : List ℕ) (place size at len : ℕ) (f : place + size ≤ lengt
 -- where the table is a part of the file, the answer is that of its own bytes, and else there is none
 module _ (file : List ℕ) (table : StrTable) (offset : StrOffset) where
   pub text_in-table : table.place + table.size ≤ length file →
-      textAt file table offset
-      ≡ placed (table.place + offset.0) (textIn (take table.size (drop table.place file)) offset.0)
-  unfolding textAt
+      text_at file table offset
+      ≡ placed (table.place + offset.0) (text_in (take table.size (drop table.place file)) offset.0)
+  unfolding text_at
   text_in-table l = rw (le-leb _ _ l)
 
   pub name-in-table : table.place + table.size ≤ length file →
       name_at file table offset
-      ≡ placed (table.place + offset.0) (nameIn (take table.size (drop table.place file)) offset.0)
+      ≡ placed (table.place + offset.0) (name_in (take table.size (drop table.place file)) offset.0)
   unfolding name_at
   name-in-table l = rw (le-leb _ _ l)
 
-  pub text-no-table : length file < table.place + table.size → textAt file table offset ≡ Unread
-  unfolding textAt
+  pub text-no-table : length file < table.place + table.size → text_at file table offset ≡ Unread
+  unfolding text_at
   text-no-table l = rw (lt-leb _ _ l)
 
   pub name-no-table : length file < table.place + table.size → name_at file table offset ≡ Unread
@@ -183,13 +183,13 @@ module _ (file : List ℕ) (table : StrTable) (offset : StrOffset) where
   name-no-table l = rw (lt-leb _ _ l)
 
 module _ (file : List ℕ) (table : StrTable) (offset : StrOffset) (t : Text) where
-  pub text-found : textAt file table offset ≡ Is t → Found textIn file table offset t
-  unfolding textAt
-  text-found e = in-table-is textIn file table offset t e
+  pub text-found : text_at file table offset ≡ Is t → Found text_in file table offset t
+  unfolding text_at
+  text-found e = in-table-is text_in file table offset t e
 
-  pub name-found : name_at file table offset ≡ Is t → Found nameIn file table offset t
+  pub name-found : name_at file table offset ≡ Is t → Found name_in file table offset t
   unfolding name_at
-  name-found e = in-table-is nameIn file table offset t e
+  name-found e = in-table-is name_in file table offset t e
 
   room : (read : List ℕ → ℕ → Len) → Inside read → Found read file table offset t → offset.0 + t.len < table.size
   room read i h =
@@ -200,14 +200,14 @@ module _ (file : List ℕ) (table : StrTable) (offset : StrOffset) (t : Text) wh
       )
 
   -- a string lies inside the file, and the byte after it too
-  pub text-within : textAt file table offset ≡ Is t → t.place + t.len < length file
+  pub text-within : text_at file table offset ≡ Is t → t.place + t.len < length file
   text-within e =
       let h = text-found e in
-      omega (arith, room textIn text_in-inside h, h.fits, h.counted)
+      omega (arith, room text_in text_in-inside h, h.fits, h.counted)
 
   -- a name is a string
-  pub name-is-text : name_at file table offset ≡ Is t → textAt file table offset ≡ Is t
-  unfolding textAt
+  pub name-is-text : name_at file table offset ≡ Is t → text_at file table offset ≡ Is t
+  unfolding text_at
   name-is-text e =
       let h = name-found e in
       let n = name-in-is (take table.size (drop table.place file)) offset.0 t.len h.spans in
@@ -223,24 +223,24 @@ module _ (file : List ℕ) (table : StrTable) (offset : StrOffset) (t : Text) wh
       rw h.counted
       (part-in-table file table.place table.size offset.0 t.len h.fits (omega (arith, room read i h)))
 
-  pub text-part-length : textAt file table offset ≡ Is t → length (part_of file t.place t.len) ≡ t.len
+  pub text-part-length : text_at file table offset ≡ Is t → length (part_of file t.place t.len) ≡ t.len
   unfolding part_of
   text-part-length e =
       let l : t.place + t.len ≤ length file = omega (arith, text-within e) in
       rw (le-leb _ _ l) (length-take-le t.len (drop t.place file) (omega (arith, length-drop t.place file)))
 
   -- no zero byte in it
-  pub text-no-zero : textAt file table offset ≡ Is t →
+  pub text-no-zero : text_at file table offset ≡ Is t →
       (k : ℕ) → k < t.len → get_or (part_of file t.place t.len) k 0 ≡ 0 → ⊥
   text-no-zero e k l z =
       let h = text-found e in
       let s : List ℕ = take table.size (drop table.place file) in
       let d = (text_in-is s offset.0 t.len h.spans).1 in
       d.none_before k l
-      (sym (ap (λ x. get_or x k 0) (part-is textIn text_in-inside h) ∙ get_or-take t.len (drop offset.0 s) k 0 l) ∙ z)
+      (sym (ap (λ x. get_or x k 0) (part-is text_in text_in-inside h) ∙ get_or-take t.len (drop offset.0 s) k 0 l) ∙ z)
 
   pub name-is-utf8 : name_at file table offset ≡ Is t → utf8 (part_of file t.place t.len) ≡ true
   name-is-utf8 e =
       let h = name-found e in
-      ap utf8 (part-is nameIn name-in-inside h)
+      ap utf8 (part-is name_in name-in-inside h)
       ∙ (name-in-is (take table.size (drop table.place file)) offset.0 t.len h.spans).1

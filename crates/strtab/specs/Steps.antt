@@ -25,17 +25,17 @@ sized (starts rs) bs = pick (met rs bs) (suc (length rs)) 0
 sized nowhere bs = 0
 
 -- the length of the character that the bytes begin with, 0 where they begin with none
-unfoldable pub charLen : List ℕ → ℕ
-charLen [] = 0
-charLen (b ∷ bs) = sized (followers b) bs
+unfoldable pub char_len : List ℕ → ℕ
+char_len [] = 0
+char_len (b ∷ bs) = sized (followers b) bs
 
 -- how many of the first bytes lie in a range, up to the first that doesn't
-unfoldable pub runLen : Range → List ℕ → ℕ
-runLen r [] = 0
-runLen r (b ∷ bs) = pick (within r b) (suc (runLen r bs)) 0
+unfoldable pub run_len : Range → List ℕ → ℕ
+run_len r [] = 0
+run_len r (b ∷ bs) = pick (within r b) (suc (run_len r bs)) 0
 
 -- how many of the first k bytes lie in a range
-unfoldable pub countIn : Range → ℕ → List ℕ → ℕ
-countIn r zero bs = 0
-countIn r (suc k) [] = 0
-countIn r (suc k) (b ∷ bs) = pick (within r b) 1 0 + countIn r k bs
+unfoldable pub count_in : Range → ℕ → List ℕ → ℕ
+count_in r zero bs = 0
+count_in r (suc k) [] = 0
+count_in r (suc k) (b ∷ bs) = pick (within r b) 1 0 + count_in r k bs

@@ -21,9 +21,9 @@ longer n (Spans m) = Spans (n + m)
 longer n Nothing = Nothing
 
 -- how many bytes stand before the first zero byte
-unfoldable pub beforeZero : List ℕ → Len
-beforeZero [] = Nothing
-beforeZero (b ∷ bs) = pick (eqb b 0) (Spans 0) (longer 1 (beforeZero bs))
+unfoldable pub before_zero : List ℕ → Len
+before_zero [] = Nothing
+before_zero (b ∷ bs) = pick (eqb b 0) (Spans 0) (longer 1 (before_zero bs))
 
 -- a length that stays where those first bytes are UTF-8
 abbrev pub judged : List ℕ → Len → Len
@@ -31,12 +31,12 @@ judged bs (Spans n) = pick (utf8 (take n bs)) (Spans n) Nothing
 judged bs Nothing = Nothing
 
 -- the string at an offset inside the table's bytes
-unfoldable pub textIn : List ℕ → ℕ → Len
-textIn table offset = pick (ltb offset (length table)) (beforeZero (drop offset table)) Nothing
+unfoldable pub text_in : List ℕ → ℕ → Len
+text_in table offset = pick (ltb offset (length table)) (before_zero (drop offset table)) Nothing
 
 -- the name at an offset: a string that is UTF-8
-unfoldable pub nameIn : List ℕ → ℕ → Len
-nameIn table offset = judged (drop offset table) (textIn table offset)
+unfoldable pub name_in : List ℕ → ℕ → Len
+name_in table offset = judged (drop offset table) (text_in table offset)
 
 -- the answer: the place counted from the file's start, and the length
 abbrev pub placed : ℕ → Len → TextRead
@@ -51,9 +51,9 @@ in_table read file table offset =
     Unread
 
 -- directories and files
-unfoldable pub textAt : List ℕ → StrTable → StrOffset → TextRead
-textAt file table offset = in_table textIn file table offset
+unfoldable pub text_at : List ℕ → StrTable → StrOffset → TextRead
+text_at file table offset = in_table text_in file table offset
 
 -- names
 unfoldable pub name_at : List ℕ → StrTable → StrOffset → TextRead
-name_at file table offset = in_table nameIn file table offset
+name_at file table offset = in_table name_in file table offset

@@ -62,8 +62,8 @@ unfoldable pub utf8 : List ℕ → Bool
 utf8 bs = octets [] bs
 
 -- the length of a sequence by its first byte: 1 for 00 to 7f, 2 for c2 to df, 3 for e0 to ef, 4 for f0 to f4, else 0
-unfoldable pub sequenceLen : ℕ → ℕ
-sequenceLen b =
+unfoldable pub sequence_len : ℕ → ℕ
+sequence_len b =
     pick (within (range 0x00 0x7f) b) 1
     (pick (within (range 0xc2 0xdf) b) 2
     (pick (within (range 0xe0 0xef) b) 3

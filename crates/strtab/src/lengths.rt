@@ -1,6 +1,6 @@
 // How many bytes a UTF-8 sequence has, by its first byte.
 ghost use Rattle.std.specs.Prelude.{◌≡◌};
-ghost use Rattle.strtab.specs.Utf8.{sequenceLen};
+ghost use Rattle.strtab.specs.Utf8.{sequence_len};
 
 // 1 for 00 to 7f, 2 for c2 to df, 3 for e0 to ef, 4 for f0 to f4, else 0 (document 01; Rust's library has the same).
 // The first and the last entry of each run are marked.
@@ -26,7 +26,7 @@ const LENGTHS: [u8; 256] = [
 
 // The length of the sequence that a byte starts, or 0 where it starts none.
 pub fn sequence_len(b: u8) -> u8
-    ensures { result ≡ sequenceLen b }
+    ensures { result ≡ sequence_len b }
 {
     LENGTHS[b as usize]
 }

@@ -7,7 +7,7 @@ mod scan;
 mod utf8;
 
 ghost use Rattle.std.specs.Prelude.{◌≡◌};
-ghost use Rattle.strtab.specs.Strings.{part_of, textIn, nameIn, textAt, name_at};
+ghost use Rattle.strtab.specs.Strings.{part_of, text_in, name_in, text_at, name_at};
 
 pub use lengths::sequence_len;
 use scan::{ascii_end, run_end};
@@ -39,7 +39,7 @@ pub enum Len {
 // The directory or file string at an offset of the string table. Unread where the table is no part of the file, the
 // offset is not inside it, or no zero byte follows inside it (document 01, "Finding the entry"). It need not be UTF-8.
 pub fn text_at(file: &[u8], table: StrTable, offset: StrOffset) -> TextRead
-    ensures { result ≡ textAt file.now table offset }
+    ensures { result ≡ text_at file.now table offset }
 {
     let place = table.place;
     let size = table.size;
@@ -97,7 +97,7 @@ fn part(file: &[u8], place: usize, len: usize) -> &[u8]
 
 // The length of the string at an offset of the table's bytes.
 fn text_in(strings: &[u8], at: usize) -> Len
-    ensures { result ≡ textIn strings.now at }
+    ensures { result ≡ text_in strings.now at }
 {
     if strings.len() <= at {
         return Len::Nothing;
@@ -113,7 +113,7 @@ fn text_in(strings: &[u8], at: usize) -> Len
 // The length of the name at an offset of the table's bytes. One pass looks for the zero byte and judges UTF-8: no
 // character but the zero byte itself has a zero byte in it.
 fn name_in(strings: &[u8], at: usize) -> Len
-    ensures { result ≡ nameIn strings.now at }
+    ensures { result ≡ name_in strings.now at }
 {
     let mut i = at;
     while i < strings.len() {

@@ -2,12 +2,12 @@
 ghost use Rattle.std.specs.Prelude.{◌≡◌, ◌+◌, ◌≤◌, length, drop};
 ghost use Rattle.strtab.specs.Utf8.{range, within};
 ghost use Rattle.reads.specs.Pick.{pick};
-ghost use Rattle.strtab.specs.Steps.{runLen, countIn};
+ghost use Rattle.strtab.specs.Steps.{run_len, count_in};
 
 // The first place from `at` on whose byte is not one from 1 to 7f, or the end. Its callers start inside the slice.
 pub(crate) fn ascii_end(s: &[u8], at: usize) -> usize
     requires { at ≤ length s.now }
-    ensures { result ≡ at + runLen (range 1 0x7f) (drop at s.now) }
+    ensures { result ≡ at + run_len (range 1 0x7f) (drop at s.now) }
 {
     let mut i = at;
     while 16 <= s.len() - i && sixteen_in(s, i) == 16 {
@@ -20,7 +20,7 @@ pub(crate) fn ascii_end(s: &[u8], at: usize) -> usize
 // sixteen, where tests one after another stay so many tests. The callers have seen that the bytes are there.
 fn sixteen_in(s: &[u8], at: usize) -> u8
     requires { at + 16 ≤ length s.now }
-    ensures { result ≡ countIn (range 1 0x7f) 16 (drop at s.now) }
+    ensures { result ≡ count_in (range 1 0x7f) 16 (drop at s.now) }
 {
     let low = eight_in(s, at);
     let high = eight_in(s, at + 8);
@@ -29,7 +29,7 @@ fn sixteen_in(s: &[u8], at: usize) -> u8
 
 fn eight_in(s: &[u8], at: usize) -> u8
     requires { at + 8 ≤ length s.now }
-    ensures { result ≡ countIn (range 1 0x7f) 8 (drop at s.now) }
+    ensures { result ≡ count_in (range 1 0x7f) 8 (drop at s.now) }
 {
     let low = four_in(s, at);
     let high = four_in(s, at + 4);
@@ -38,7 +38,7 @@ fn eight_in(s: &[u8], at: usize) -> u8
 
 fn four_in(s: &[u8], at: usize) -> u8
     requires { at + 4 ≤ length s.now }
-    ensures { result ≡ countIn (range 1 0x7f) 4 (drop at s.now) }
+    ensures { result ≡ count_in (range 1 0x7f) 4 (drop at s.now) }
 {
     let first = one_in(s[at]);
     let second = one_in(s[at + 1]);
@@ -57,7 +57,7 @@ fn one_in(b: u8) -> u8
 // The first place from `at` on whose byte is not one from 1 to `top`, or the end. Its callers start inside the slice.
 pub(crate) fn run_end(s: &[u8], at: usize, top: u8) -> usize
     requires { at ≤ length s.now }
-    ensures { result ≡ at + runLen (range 1 top) (drop at s.now) }
+    ensures { result ≡ at + run_len (range 1 top) (drop at s.now) }
 {
     let mut i = at;
     while 4 <= s.len() - i {
@@ -84,7 +84,7 @@ pub(crate) fn run_end(s: &[u8], at: usize, top: u8) -> usize
 // The same, byte by byte: where fewer than four are left.
 fn last_run_end(s: &[u8], at: usize, top: u8) -> usize
     requires { at ≤ length s.now }
-    ensures { result ≡ at + runLen (range 1 top) (drop at s.now) }
+    ensures { result ≡ at + run_len (range 1 top) (drop at s.now) }
 {
     let mut i = at;
     while i < s.len() {

@@ -1,7 +1,7 @@
 // Whether bytes are UTF-8 (RFC 3629, section 4): the length of a sequence by the table, then its following bytes.
 ghost use Rattle.std.specs.Prelude.{◌≡◌, ◌<◌, length, drop};
 ghost use Rattle.strtab.specs.Utf8.{utf8, within, tail};
-ghost use Rattle.strtab.specs.Steps.{second, charLen};
+ghost use Rattle.strtab.specs.Steps.{second, char_len};
 
 use super::lengths::sequence_len;
 use super::scan::{is_between, run_end};
@@ -29,7 +29,7 @@ pub fn is_utf8(s: &[u8]) -> bool
 // end, or a following byte is wrong. Its callers ask inside the slice.
 pub(crate) fn char_len(s: &[u8], at: usize) -> usize
     requires { at < length s.now }
-    ensures { result ≡ charLen (drop at s.now) }
+    ensures { result ≡ char_len (drop at s.now) }
 {
     let first = s[at];
     let n = sequence_len(first) as usize;

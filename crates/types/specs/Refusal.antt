@@ -5,8 +5,8 @@ use Rattle.types.specs.declared.Text.{Text}
 use Rattle.types.specs.declared.Answer.{Answer}
 
 -- no text
-abbrev pub noText : Text
-noText = record { place = 0; len = 0 }
+abbrev pub no_text : Text
+no_text = record { place = 0; len = 0 }
 
 -- the refusal of a number
 abbrev pub refusal : ℕ → Answer
@@ -14,10 +14,10 @@ refusal number = record {
   number = number;
   addr = record { 0 = 0 };
   size = 0;
-  name = noText;
+  name = no_text;
   has_code = false;
-  dir = noText;
-  file = noText;
+  dir = no_text;
+  file = no_text;
   line = record { 0 = 0 };
   count = 0;
 }

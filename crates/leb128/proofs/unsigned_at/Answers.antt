@@ -1,7 +1,7 @@
 -- `leb128::unsigned_at` meets its contract: nine bytes stay below 2^63, and of tenth ones only 0 and 1 fit.
 -- Assumes nothing.
 use Rattle.std.proofs.Common.{◌≡◌, ℕ, ◌+◌, ◌-◌, ◌*◌, ◌^◌, ◌<◌, ◌≤◌, List, length, get_or, inl, inr, arith}
-use Rattle.leb128.specs.Answers.{unsignedAt}
+use Rattle.leb128.specs.Answers.{unsigned_at}
 use Rattle.leb128.specs.declared.Unsigned.TheVariants.{Value}
 use Rattle.leb128.proofs.Turn.{Sofar, goes_on}
 use Rattle.leb128.proofs.Plain.{plain-ended, plain-last, plain-above}
@@ -12,7 +12,7 @@ use Rattle.leb128.proofs.unsigned_at.Goals.{then-loop-i-test+else-unit-lt-TENTH,
 last :
     (s : List ℕ) (at sum unit i : ℕ) → Sofar s at sum unit i → i < length s → get_or s i 0 < 128 → unit < 2 ^ 63 →
     let v = sum + get_or s i 0 * unit in
-    (v < 2 ^ 64) × (Value v (i + 1) ≡ unsignedAt s at)
+    (v < 2 ^ 64) × (Value v (i + 1) ≡ unsigned_at s at)
 last s at sum unit i h l t u = plain-last s at sum unit i h l t (inr u)
 
 -- one more group: its value, the weight after it, and what is read then

@@ -1,7 +1,7 @@
 -- `linetab::line_row` meets its contract: the header is read at 0, and the program runs from the place behind it.
 -- Assumes nothing.
 use Rattle.std.proofs.Common.{sym, ap, ◌∙◌}
-use Rattle.linetab.specs.Rows.{behind, lineRow}
+use Rattle.linetab.specs.Rows.{behind, line_row}
 use Rattle.linetab.proofs.Tables.{table-row}
 use Rattle.linetab.proofs.line_row.Goals as goal
 
@@ -16,9 +16,9 @@ returns-in-Nothing c =
     (sym c.in-Nothing.is ∙ c.row_for.ensures)
 
 pub returns-in-Short : goal.returns-in-Short
-unfolding lineRow
+unfolding line_row
 returns-in-Short c = ap (behind c.args.block.now c.args.symbol c.args.addr) (sym c.in-Short.is ∙ c.parse.ensures)
 
 pub returns-in-Wide : goal.returns-in-Wide
-unfolding lineRow
+unfolding line_row
 returns-in-Wide c = ap (behind c.args.block.now c.args.symbol c.args.addr) (sym c.in-Wide.is ∙ c.parse.ensures)

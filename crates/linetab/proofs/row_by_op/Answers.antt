@@ -2,7 +2,7 @@
 -- Assumes nothing.
 use Rattle.std.proofs.Common.{sym, ◌∙◌, arith}
 use Rattle.linetab.proofs.Progress.{ok-ahead, row-ahead}
-use Rattle.linetab.proofs.Runs.{on-ok, on_row, on-past, on-end}
+use Rattle.linetab.proofs.Runs.{on-ok, on-row, on-past, on-end}
 use Rattle.linetab.proofs.row_by_op.Goals as goal
 
 pub loop-after-smaller-in-Ok : goal.loop-after-smaller-in-Ok
@@ -26,7 +26,7 @@ loop-after-smaller c =
 pub loop-after-preserved : goal.loop-after-preserved
 loop-after-preserved c =
     c.loop-after.invariant
-    ∙ on_row _ _ _ _ _ _ (sym c.run_op.ensures ∙ c.in-NewRow.is) c.if-addr-to.false
+    ∙ on-row _ _ _ _ _ _ (sym c.run_op.ensures ∙ c.in-NewRow.is) c.if-addr-to.false
 
 pub returns-in-End : goal.returns-in-End
 returns-in-End c =

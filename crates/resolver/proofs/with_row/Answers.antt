@@ -1,4 +1,4 @@
--- `resolver::with_row` meets its contract: what is heard of the row and of its position picks the case of `rowRest`.
+-- `resolver::with_row` meets its contract: what is heard of the row and of its position picks the case of `row_rest`.
 -- Assumes nothing.
 use Rattle.std.proofs.Common.{refl, sym, ◌∙◌}
 use Rattle.resolver.proofs.Plainly.{rest-none, rest-unread, rest-refused, rest-placed}

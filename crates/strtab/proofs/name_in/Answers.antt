@@ -6,8 +6,8 @@ use mathlib.Core.Path.{◌≡◌}
 use lib.ListN.{drop}
 use native.Mathlib.Omega.{arith}
 use Rattle.strtab.specs.Utf8.{range}
-use Rattle.strtab.specs.Steps.{runLen}
-use Rattle.strtab.specs.Strings.{nameIn}
+use Rattle.strtab.specs.Steps.{run_len}
+use Rattle.strtab.specs.Strings.{name_in}
 use Rattle.strtab.proofs.Chars.{char-fits}
 use Rattle.strtab.proofs.Passing.{Passed, begin, pass, ended, failed}
 use Rattle.strtab.proofs.Runs.{pass-run}
@@ -15,8 +15,8 @@ use Rattle.strtab.proofs.Names.{named, name-begin, name-over, name-byte, name-ze
 use Rattle.strtab.proofs.name_in.Goals as goal
 
 -- the run is passed
-past : {s : List ℕ} {at i j : ℕ} → Passed (nameIn s at) (named []) s at i →
-    j ≡ i + runLen (range 1 0x7f) (drop i s) → Passed (nameIn s at) (named []) s at j
+past : {s : List ℕ} {at i j : ℕ} → Passed (name_in s at) (named []) s at i →
+    j ≡ i + run_len (range 1 0x7f) (drop i s) → Passed (name_in s at) (named []) s at j
 past h e = pass-run (range 1 0x7f) (named []) name-byte h _ e
 
 pub loop-i-init : goal.loop-i-init

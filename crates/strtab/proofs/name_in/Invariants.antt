@@ -3,13 +3,13 @@
 use Prim.Native.Nat.{◌-◌}
 use mathlib.Core.List.{[]}
 use lib.ListN.{length}
-use Rattle.strtab.specs.Strings.{nameIn}
+use Rattle.strtab.specs.Strings.{name_in}
 use Rattle.strtab.proofs.Passing.{Passed}
 use Rattle.strtab.proofs.Names.{named}
 use Rattle.strtab.proofs.name_in.Given as goal
 
 abbrev pub invariant-loop-i : goal.invariant-loop-i
-invariant-loop-i l = Passed (nameIn l.strings l.at) (named []) l.strings l.at l.i
+invariant-loop-i l = Passed (name_in l.strings l.at) (named []) l.strings l.at l.i
 
 abbrev pub decreases-loop-i : goal.decreases-loop-i
 decreases-loop-i l = length l.strings - l.i

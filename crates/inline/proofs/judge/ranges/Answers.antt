@@ -1,5 +1,5 @@
 -- `inline::judge::ranges` meets its contract: what all ranges come to is what those left come to with what is kept
--- (`spansFrom`).
+-- (`spans_from`).
 -- Assumes nothing.
 use Rattle.std.proofs.Common.{sym, ◌∙◌, arith}
 use Rattle.inline.proofs.Spans.{span-next, spans-start, spans-bad, spans-at, spans-none}

@@ -1,7 +1,7 @@
 -- `linetab::opcode::advance_line` meets its contract: the operand is read, or the program stops; the sum wraps.
 -- Assumes nothing.
 use Rattle.std.proofs.Common.{sym, ap, ◌∙◌}
-use Rattle.linetab.specs.Machine.{advanceLine}
+use Rattle.linetab.specs.Machine.{advance_line}
 use Rattle.linetab.proofs.Opcodes.{line_read}
 use Rattle.linetab.proofs.opcode.advance_line.Goals as goal
 
@@ -10,9 +10,9 @@ returns-in-Value c =
     line_read _ _ _ c.args.row _ _ (sym c.in-Value.is ∙ c.signed_at.ensures) c.add_to_u32-line.ensures
 
 pub returns-in-Short : goal.returns-in-Short
-unfolding advanceLine
-returns-in-Short c = ap (advanceLine _) (sym c.in-Short.is ∙ c.signed_at.ensures)
+unfolding advance_line
+returns-in-Short c = ap (advance_line _) (sym c.in-Short.is ∙ c.signed_at.ensures)
 
 pub returns-in-Wide : goal.returns-in-Wide
-unfolding advanceLine
-returns-in-Wide c = ap (advanceLine _) (sym c.in-Wide.is ∙ c.signed_at.ensures)
+unfolding advance_line
+returns-in-Wide c = ap (advance_line _) (sym c.in-Wide.is ∙ c.signed_at.ensures)

@@ -1,7 +1,7 @@
 -- `parser::entries::info_in` meets its contract: eight bytes are there or not.
 -- Assumes nothing.
 use Rattle.std.proofs.Common.{sym, ap, ◌∙◌, arith}
-use Rattle.parser.specs.Entries.{asInfo, infoIn}
+use Rattle.parser.specs.Entries.{as_info, info_in}
 use Rattle.parser.proofs.Fields.{pair-within}
 use Rattle.parser.proofs.entries.info_in.Goals as goal
 
@@ -10,9 +10,9 @@ overflow_add-items c =
     omega (arith, pair-within _ _ _ _ (sym c.in-Is.is ∙ c.pair_at.ensures))
 
 pub returns-in-Is : goal.returns-in-Is
-unfolding infoIn
-returns-in-Is c = ap (asInfo _) (sym c.in-Is.is ∙ c.pair_at.ensures)
+unfolding info_in
+returns-in-Is c = ap (as_info _) (sym c.in-Is.is ∙ c.pair_at.ensures)
 
 pub returns-in-Unread : goal.returns-in-Unread
-unfolding infoIn
-returns-in-Unread c = ap (asInfo _) (sym c.in-Unread.is ∙ c.pair_at.ensures)
+unfolding info_in
+returns-in-Unread c = ap (as_info _) (sym c.in-Unread.is ∙ c.pair_at.ensures)

@@ -1,4 +1,4 @@
--- `resolver::landing::land` meets its contract: the tables, the entry and what it says, in the order of `landingOf`.
+-- `resolver::landing::land` meets its contract: the tables, the entry and what it says, in the order of `landing_of`.
 -- Assumes nothing.
 use Rattle.std.proofs.Common.{sym, ◌∙◌}
 use Rattle.resolver.proofs.Landings.{land-refused, land-unknown, land-entry}

@@ -1,4 +1,4 @@
--- `resolver::sites::site_at` meets its contract: what is read of the two tables picks the case of `placeAt`.
+-- `resolver::sites::site_at` meets its contract: what is read of the two tables picks the case of `place_at`.
 -- Assumes nothing.
 use Rattle.std.proofs.Common.{sym, ◌∙◌}
 use Rattle.resolver.proofs.Positions.{site-none, site-no-dir, site-no-file, site-is}

@@ -6,7 +6,7 @@ use Prim.Native.Nat.{ℕ}
 use lib.Dec.{eqb, eqb→eq}
 use lib.ListN.{get_or, replicate}
 use borrow.Author.Rules.{rules}
-use Rattle.strtab.specs.Utf8.{sequenceLen}
+use Rattle.strtab.specs.Utf8.{sequence_len}
 use Rattle.strtab.proofs.Table.{at}
 use Rattle.strtab.proofs.lengths.sequence_len.Goals as goal
 
@@ -15,8 +15,8 @@ table : List ℕ
 table = replicate 128 1 ++ (replicate 66 0 ++ (replicate 30 2 ++ (replicate 16 3 ++ (replicate 5 4 ++ replicate 11 0))))
 
 right : ℕ → ℕ → Bool
-right b x = eqb x (sequenceLen b)
+right b x = eqb x (sequence_len b)
 
 pub returns : goal.returns
-unfolding table right sequenceLen
-returns c = eqb→eq (get_or table c.args.b 0) (sequenceLen c.args.b) (at right table tt c.args.b (search rules))
+unfolding table right sequence_len
+returns c = eqb→eq (get_or table c.args.b 0) (sequence_len c.args.b) (at right table tt c.args.b (search rules))

@@ -6,14 +6,14 @@ use mathlib.Core.List.{List}
 use lib.ListN.{length, get_or}
 use mathlib.Core.Path.{◌≡◌, sym, ◌∙◌}
 use native.Mathlib.Omega.{arith}
-use Rattle.strtab.specs.Utf8.{within, tail, sequenceLen}
+use Rattle.strtab.specs.Utf8.{within, tail, sequence_len}
 use Rattle.strtab.specs.Steps.{second}
 use Rattle.strtab.proofs.Chars.{Lead, Twos, Threes, one-is, cut, second-wrong, two-are}
 use Rattle.strtab.proofs.Chars.{third-wrong, three-are, fourth-wrong, four_are}
 use Rattle.strtab.proofs.utf8.char_len.Goals as goal
 
 module _ {s : List ℕ} {i n : ℕ} where
-  lead : i < length s → get_or s i 0 < 256 → n ≡ sequenceLen (get_or s i 0) → Lead s i n
+  lead : i < length s → get_or s i 0 < 256 → n ≡ sequence_len (get_or s i 0) → Lead s i n
   lead h b e = record { inside = h; byte = b; sequence = e }
 
   twos : Lead s i n → 2 ≤ n → n ≤ length s - i →

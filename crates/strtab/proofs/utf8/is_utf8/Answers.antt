@@ -6,13 +6,13 @@ use mathlib.Core.Path.{◌≡◌, sym, ◌∙◌}
 use lib.ListN.{drop}
 use native.Mathlib.Omega.{arith}
 use Rattle.strtab.specs.Utf8.{range, utf8}
-use Rattle.strtab.specs.Steps.{runLen}
+use Rattle.strtab.specs.Steps.{run_len}
 use Rattle.strtab.proofs.Chars.{utf8-none, utf8-next, utf8-done, char-fits}
 use Rattle.strtab.proofs.Runs.{utf8-run}
 use Rattle.strtab.proofs.utf8.is_utf8.Goals as goal
 
 -- the run may be left out
-past : (s : List ℕ) (i : ℕ) {j : ℕ} → utf8 s ≡ utf8 (drop i s) → j ≡ i + runLen (range 1 0x7f) (drop i s) →
+past : (s : List ℕ) (i : ℕ) {j : ℕ} → utf8 s ≡ utf8 (drop i s) → j ≡ i + run_len (range 1 0x7f) (drop i s) →
     utf8 s ≡ utf8 (drop j s)
 past s i h e = h ∙ utf8-run s i _ e
 
