@@ -1,4 +1,3 @@
-pub mod Orders
-pub mod Halves
+pub mod Window
 pub mod Places
 pub mod Written

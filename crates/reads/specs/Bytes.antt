@@ -3,25 +3,20 @@
 --   width in bytes   least significant byte first   a number from 0 to 256 ^ width - 1
 --
 -- Assumes nothing.
-use Rattle.std.specs.Prelude.{ℕ, zero, suc, ◌+◌, ◌*◌, ◌/◌, ◌%◌, List, [], ◌∷◌, length, take, drop, leb}
+use Rattle.std.specs.Prelude.{ℕ, zero, suc, ◌+◌, ◌*◌, ◌/◌, ◌%◌, List, [], ◌∷◌, Option, Some, None, length, take, drop, leb}
 use Rattle.reads.specs.Pick.{pick}
-
--- a number, or that it doesn't read
-pub data Fixed : Type 0 where
-  value : ℕ → Fixed
-  unread : Fixed
 
 -- the number that bytes say: the first counts once, each next one 256 times as much
 unfoldable pub le : List ℕ → ℕ
 le [] = 0
 le (b ∷ bs) = b + 256 * le bs
 
--- the number in the first bytes of a list; where there are fewer it doesn't read
-unfoldable pub le_in : ℕ → List ℕ → Fixed
-le_in width bs = pick (leb width (length bs)) (value (le (take width bs))) unread
+-- the number in the first bytes of a list; where there are fewer there is none
+unfoldable pub le_in : ℕ → List ℕ → Option ℕ
+le_in width bs = pick (leb width (length bs)) (Some (le (take width bs))) None
 
 -- the number at a place of a list
-abbrev pub le_at : ℕ → List ℕ → ℕ → Fixed
+abbrev pub le_at : ℕ → List ℕ → ℕ → Option ℕ
 le_at width s at = le_in width (drop at s)
 
 -- the bytes that say a number, modulo 256 ^ width
