@@ -15,7 +15,7 @@ use mathlib.Core.Logic.{◌↔◌, ◌⊎◌, inl, inr, ⊎_elim}
 use mathlib.Core.Path.{◌≡◌, refl, ap, ap₂, sym, subst, ◌∙◌}
 use lib.ListN.{length, get_or}
 use native.Mathlib.Omega.{arith}
-use Rattle.reads.proofs.Orders.{lt-or-ge}
+use Rattle.std.proofs.lemmas.Bool.{cases_lt}
 use Rattle.inline.specs.Paths.{
   NodePath,
   top,
@@ -66,8 +66,8 @@ module _ (p q : NodePath) where
       ⊎_elim
       (λ (l : first q < first p). inr (inr (sibling l)))
       (λ (h : first p ≤ first q). even (omega arith))
-      (lt-or-ge (first q) (first p)))
-      (lt-or-ge (first p) (first q))
+      (cases_lt (first q) (first p)))
+      (cases_lt (first p) (first q))
 
 pub before-total : (p q : NodePath) → Before p q ⊎ (p ≡ q) ⊎ Before q p
 before-total (top i) (top j) = by_first (top i) (top j) (λ e. inr (inl (ap top e)))
@@ -182,8 +182,8 @@ module _ (d : NodePath) where
       ⊎_elim
       (λ (l : j < i). absurd (before-irreflexive (get_or ps j d) (rw e at (rises-at ps j i r l h))))
       (λ (m : i ≤ j). omega arith)
-      (lt-or-ge j i))
-      (lt-or-ge i j)
+      (cases_lt j i))
+      (cases_lt i j)
 
 -- two lists that rise and have the same members: their first paths, and what follows these
 module _ (x y : NodePath) (xs ys : List NodePath) where

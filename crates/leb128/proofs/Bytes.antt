@@ -17,7 +17,7 @@ use Rattle.leb128.specs.Leb.{
   unsigned,
   signed,
 }
-use Rattle.reads.proofs.Orders.{lt-or-ge}
+use Rattle.std.proofs.lemmas.Bool.{cases_lt}
 use Rattle.leb128.proofs.Digits.{never, digits-zero, digits-nil, digits_last, digits_more}
 use Rattle.leb128.proofs.Taken.{more-inv, unsigned-inv, signed-inv}
 
@@ -39,7 +39,7 @@ digits-local (suc k) (b ∷ bs) v n rest e =
     ∙ digits_more k b (take i.1 bs ++ rest) l
     ∙ ap (more b) (digits-local k bs i.0 i.1 rest i.2)
     ∙ sym (digits_more k b bs l))
-    (lt-or-ge b 128)
+    (cases_lt b 128)
 
 module _ (bs : List ℕ) (n : ℕ) (rest : List ℕ) where
   pub unsigned-local : (v : ℕ) → unsigned bs ≡ number v n → unsigned (take n bs ++ rest) ≡ number v n
@@ -76,7 +76,7 @@ short-asks (suc k) (b ∷ bs) e =
     (λ (l : 128 ≤ b).
     let a = short-asks k bs (more-short b (digits k bs) (sym (digits_more k b bs l) ∙ e)) in
     record { fewer = omega (arith, a.fewer); each = each-asks b bs l a.each })
-    (lt-or-ge b 128)
+    (cases_lt b 128)
 
 asks-short : (k : ℕ) (bs : List ℕ) → Asking k bs → digits k bs ≡ short
 asks-short zero bs a = absurd (omega (arith, a.fewer))

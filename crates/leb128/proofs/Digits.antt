@@ -3,7 +3,7 @@
 use Rattle.std.proofs.Common.{◌≡◌, ℕ, suc, ◌+◌, ◌*◌, ◌^◌, ◌<◌, ◌≤◌, List, [], ◌∷◌, refl, ap, ◌∙◌, ⊎_elim, arith, lit<, le-ltb, lt-ltb}
 use lib.Arith.{digits_lt}
 use native.Mathlib.Nat.{pow-le-pow_right}
-use Rattle.reads.proofs.Orders.{lt-or-ge}
+use Rattle.std.proofs.lemmas.Bool.{cases_lt}
 use Rattle.leb128.specs.Leb.{number, short, wide, more, digits}
 
 -- where two answers that differ would be equal, `cc` proves 0 ≡ 1
@@ -40,14 +40,14 @@ module _ (k w : ℕ) (e : w ≡ 128 ^ k) where
       ⊎_elim
       (λ (l : k < 9). absurd (omega (arith, weight-le 8 (omega arith))))
       (λ (l : 9 ≤ k). omega arith)
-      (lt-or-ge k 9)
+      (cases_lt k 9)
 
   pub weight-early : k ≤ 9 → (w ≡ 2 ^ 63 → ⊥) → (k ≤ 8) × (w ≤ 2 ^ 56)
   weight-early h n =
       ⊎_elim
       (λ (l : k < 9). (omega arith, weight-le 8 (omega arith)))
       (λ (l : 9 ≤ k). let q : k ≡ 9 = omega arith in absurd (n (e ∙ ap (λ x. 128 ^ x) q)))
-      (lt-or-ge k 9)
+      (cases_lt k 9)
 
 -- a digit below m, above a value below the digit's weight
 pub digit_room : (b w v m : ℕ) → b < m → v < w → v + b * w < m * w

@@ -1,14 +1,14 @@
 -- What `signed_at` answers, from what it has read: one law for each way out.
 -- Assumes nothing.
-use Rattle.std.proofs.Common.{◌≡◌, ℕ, zero, suc, ◌+◌, ◌-◌, ◌*◌, ◌%◌, ◌^◌, ◌<◌, ◌≤◌, ◌⊎◌, List, length, get_or, drop, ℤ, pos, negsuc, ◌-ℤ◌, sym, ap, ◌∙◌, inl, inr, ⊎_elim, mul-le-mul_right, mul_comm, add-mul, pow-suc, add-one, arith, w64, to_z, of_z, le-ltb, lt-ltb}
+use Rattle.std.proofs.Common.{◌≡◌, ℕ, zero, suc, ◌+◌, ◌-◌, ◌*◌, ◌%◌, ◌^◌, ◌<◌, ◌≤◌, ◌⊎◌, List, length, get_or, drop, ℤ, pos, negsuc, ◌-ℤ◌, sym, ap, ◌∙◌, inl, inr, ⊎_elim, mul-le-mul_right, mul_comm, add-mul, pow-suc, add-one, arith, w64, to_z, of_z, le-ltb, lt-ltb, Ok, Err, Result}
+use Rattle.leb128.specs.declared.Cause.{Cause}
+use Rattle.leb128.specs.declared.Cause.TheVariants.{Short, Wide}
 use lib.Signed.{mag}
 use mir.ValLaws.{to_z_pos, to_z-neg, to_z-of_z}
 use Rattle.leb128.specs.Leb.{Leb, number, short, wide, digits, kept, complement, signed64, signed}
 use Rattle.leb128.specs.Answers.{signed_at}
 use Rattle.leb128.specs.Ends.{Ends}
-use Rattle.leb128.specs.declared.Signed.{Signed}
-use Rattle.leb128.specs.declared.Signed.TheVariants as z
-use Rattle.reads.proofs.Orders.{lt-or-ge}
+use Rattle.std.proofs.lemmas.Bool.{cases_lt}
 use Rattle.leb128.proofs.Digits.{weight-le, weight-early, digit_room}
 use Rattle.leb128.proofs.Turn.{Sofar, tenth, used-up, ends, too_long}
 
@@ -43,27 +43,27 @@ module _ (x n : ℕ) where
 
 -- what `of_bits` made stands in the answer as it is
 pub made :
-    (r x : ℤ) (n : ℕ) (a : Signed) →
-    mag r < 2 ^ 63 → r ≡ x → z.Value x n ≡ a → z.Value (to_z w64 (of_z w64 r)) n ≡ a
-made r x n a f e q = ap (λ v. z.Value v n) (to_z-of_z w64 r (record { sfits = f }) ∙ e) ∙ q
+    (r x : ℤ) (n : ℕ) (a : Result (ℤ × ℕ) Cause) →
+    mag r < 2 ^ 63 → r ≡ x → Ok (x, n) ≡ a → Ok (to_z w64 (of_z w64 r), n) ≡ a
+made r x n a f e q = ap (λ v. Ok (v, n)) (to_z-of_z w64 r (record { sfits = f }) ∙ e) ∙ q
 
 module _ (s : List ℕ) (at : ℕ) where
-  sign-short : digits 10 (drop at s) ≡ short → z.Short ≡ signed_at s at
+  sign-short : digits 10 (drop at s) ≡ short → Err Short ≡ signed_at s at
   unfolding signed_at signed
   sign-short e = rw e
 
-  sign-long : digits 10 (drop at s) ≡ wide → z.Wide ≡ signed_at s at
+  sign-long : digits 10 (drop at s) ≡ wide → Err Wide ≡ signed_at s at
   unfolding signed_at signed
   sign-long e = rw e
 
 module _ {s : List ℕ} {at low w last next : ℕ} (h : Ends s at low w last next) where
   found :
       (v : ℤ) → judged (low + last * w) (h.before + 1) ≡ number v (h.before + 1) →
-      z.Value v next ≡ signed_at s at
+      Ok (v, next) ≡ signed_at s at
   unfolding signed_at signed
   found v e = rw (h.whole, e, h.place)
 
-  refused : judged (low + last * w) (h.before + 1) ≡ wide → z.Wide ≡ signed_at s at
+  refused : judged (low + last * w) (h.before + 1) ≡ wide → Err Wide ≡ signed_at s at
   unfolding signed_at signed
   refused e = rw (h.whole, e)
 
@@ -109,14 +109,14 @@ module _ {s : List ℕ} {at low w last next : ℕ} (h : Ends s at low w last nex
         o in
         (room, omega (arith, mul-le-mul_right w least, h.small))
 
-  sign-plus : last < 64 → low + last * w < 2 ^ 63 → z.Value (to_z w64 (low + last * w)) next ≡ signed_at s at
+  sign-plus : last < 64 → low + last * w < 2 ^ 63 → Ok (to_z w64 (low + last * w), next) ≡ signed_at s at
   sign-plus t f =
       let m : last ≤ 63 = omega arith in
       found _ (plus-fits _ _ (omega (arith, power, mul-le-mul_right w m, h.small)) f)
 
   sign-minus :
       64 ≤ last → (128 - last) * w ≤ 2 ^ 63 → low < (128 - last) * w →
-      z.Value (to_z w64 (2 ^ 64 - 1 - ((128 - last) * w - low) + 1)) next ≡ signed_at s at
+      Ok (to_z w64 (2 ^ 64 - 1 - ((128 - last) * w - low) + 1), next) ≡ signed_at s at
   sign-minus t f l =
       let k = (128 - last) * w - low - 1 in
       let b : 2 ^ 64 - suc k ≡ 2 ^ 64 - 1 - ((128 - last) * w - low) + 1 = omega arith in
@@ -125,7 +125,7 @@ module _ {s : List ℕ} {at low w last next : ℕ} (h : Ends s at low w last nex
       (minus-fits (low + last * w) (h.before + 1) k (omega (arith, power, mul-le-mul_right w t)) d (omega arith)
       ∙ ap (λ x. number (to_z w64 x) (h.before + 1)) b)
 
-  sign-wide : w ≡ 2 ^ 63 → 0 < last → last < 127 → z.Wide ≡ signed_at s at
+  sign-wide : w ≡ 2 ^ 63 → 0 < last → last < 127 → Err Wide ≡ signed_at s at
   sign-wide q y t =
       let m : last * w ≡ last * 2 ^ 63 = ap (λ x. last * x) q in
       let x = low + last * w in
@@ -135,12 +135,12 @@ module _ {s : List ℕ} {at low w last next : ℕ} (h : Ends s at low w last nex
       (λ (p : 64 ≤ last).
       minus-wide x (h.before + 1) (128 * w - suc x) (omega (arith, power)) (omega (arith, power, h.small))
       (omega (arith, h.small)))
-      (lt-or-ge last 64))
+      (cases_lt last 64))
 
 -- ---- the ways out of the loop
 
 module _ (s : List ℕ) (at low w i : ℕ) (h : Sofar s at low w i) where
-  pub signed-ended : length s ≤ i → z.Short ≡ signed_at s at
+  pub signed-ended : length s ≤ i → Err Short ≡ signed_at s at
   signed-ended l = sign-short s at (used-up s at low w i h l)
 
   module _ (l : i < length s) where
@@ -152,7 +152,7 @@ module _ (s : List ℕ) (at low w i : ℕ) (h : Sofar s at low w i) where
       signed-plus :
           get_or s i 0 < 64 →
           (low + get_or s i 0 * w < 2 ^ 63)
-          × (z.Value (to_z w64 (low + get_or s i 0 * w)) (i + 1) ≡ signed_at s at)
+          × (Ok (to_z w64 (low + get_or s i 0 * w), i + 1) ≡ signed_at s at)
       signed-plus t =
           let e = ends s at low w i h l (omega arith) in
           let f = sign-room e (inr (inr other)) t in
@@ -163,7 +163,7 @@ module _ (s : List ℕ) (at low w i : ℕ) (h : Sofar s at low w i) where
           let least = (128 - get_or s i 0) * w in
           (least ≤ 2 ^ 63)
           × (low < least)
-          × (z.Value (to_z w64 (2 ^ 64 - 1 - (least - low) + 1)) (i + 1) ≡ signed_at s at)
+          × (Ok (to_z w64 (2 ^ 64 - 1 - (least - low) + 1), i + 1) ≡ signed_at s at)
       signed-minus t y =
           let e = ends s at low w i h l y in
           let f = under-room e (inr (inr other)) t in
@@ -176,7 +176,7 @@ module _ (s : List ℕ) (at low w i : ℕ) (h : Sofar s at low w i) where
           (above < 2 ^ 63)
           × (64 * w < 2 ^ 63)
           × ((bits : ℕ) → bits < 2 ^ 64 → (bits + 64 * w) % 2 ^ 64 ≡ above →
-          z.Value (to_z w64 bits) (i + 1) ≡ signed_at s at)
+          Ok (to_z w64 bits, i + 1) ≡ signed_at s at)
       signed-last y =
           let b = get_or s i 0 in
           let e = ends s at low w i h l y in
@@ -189,29 +189,29 @@ module _ (s : List ℕ) (at low w i : ℕ) (h : Sofar s at low w i) where
                 (λ (t : b < 64).
                 let seven : (b + 64) % 128 * w ≡ b * w + 64 * w = ap (λ x. x * w) (omega arith) ∙ add-mul b 64 w in
                 let v : bits ≡ low + b * w = omega (arith, early, e.small, seven, r, (signed-plus t).0) in
-                ap (λ x. z.Value (to_z w64 x) (i + 1)) v ∙ (signed-plus t).1)
+                ap (λ x. Ok (to_z w64 x, i + 1)) v ∙ (signed-plus t).1)
                 (λ (t : 64 ≤ b).
                 let m = signed-minus t y in
                 let one : b * w ≡ (b + 64) % 128 * w + 64 * w =
                 ap (λ x. x * w) (omega arith) ∙ add-mul ((b + 64) % 128) 64 w in
                 let v : bits ≡ 2 ^ 64 - 1 - ((128 - b) * w - low) + 1 =
                 omega (arith, early, e.small, one, parts e, r, m.0, m.1) in
-                ap (λ x. z.Value (to_z w64 x) (i + 1)) v ∙ m.2)
-                (lt-or-ge b 64),
+                ap (λ x. Ok (to_z w64 x, i + 1)) v ∙ m.2)
+                (cases_lt b 64),
           )
 
     -- the tenth byte
     module _ (q : 2 ^ 63 ≤ w) where
-      pub signed-tenth-clear : get_or s i 0 ≡ 0 → z.Value (to_z w64 low) (i + 1) ≡ signed_at s at
+      pub signed-tenth-clear : get_or s i 0 ≡ 0 → Ok (to_z w64 low, i + 1) ≡ signed_at s at
       signed-tenth-clear t =
           let e = ends s at low w i h l (omega arith) in
           let f = sign-room e (inr (inl (omega arith))) (omega arith) in
           let v : low ≡ low + get_or s i 0 * w = omega (arith, ap (λ x. x * w) t) in
-          ap (λ x. z.Value (to_z w64 x) (i + 1)) v ∙ sign-plus e (omega arith) f
+          ap (λ x. Ok (to_z w64 x, i + 1)) v ∙ sign-plus e (omega arith) f
 
       pub signed-tenth-set :
           get_or s i 0 ≡ 127 →
-          (low < 2 ^ 63) × (z.Value (to_z w64 (low + 2 ^ 63)) (i + 1) ≡ signed_at s at)
+          (low < 2 ^ 63) × (Ok (to_z w64 (low + 2 ^ 63), i + 1) ≡ signed_at s at)
       signed-tenth-set t =
           let e = ends s at low w i h l (omega arith) in
           let f = under-room e (inl (omega arith)) (omega arith) in
@@ -219,13 +219,13 @@ module _ (s : List ℕ) (at low w i : ℕ) (h : Sofar s at low w i) where
           ap (λ x. (128 - x) * w) t ∙ ap (λ x. 1 * x) (tenth s at low w i h q) in
           let v : low + 2 ^ 63 ≡ 2 ^ 64 - 1 - ((128 - get_or s i 0) * w - low) + 1 = omega (arith, f.1, p) in (
             omega (arith, f.1, p),
-            ap (λ x. z.Value (to_z w64 x) (i + 1)) v ∙ sign-minus e (omega arith) f.0 f.1,
+            ap (λ x. Ok (to_z w64 x, i + 1)) v ∙ sign-minus e (omega arith) f.0 f.1,
           )
 
-      pub signed-tenth-wide : (get_or s i 0 ≡ 0 → ⊥) → (get_or s i 0 ≡ 127 → ⊥) → z.Wide ≡ signed_at s at
+      pub signed-tenth-wide : (get_or s i 0 ≡ 0 → ⊥) → (get_or s i 0 ≡ 127 → ⊥) → Err Wide ≡ signed_at s at
       signed-tenth-wide n m =
           ⊎_elim
           (λ (p : get_or s i 0 < 128).
           sign-wide (ends s at low w i h l p) (tenth s at low w i h q) (omega (arith, n)) (omega (arith, m)))
           (λ (p : 128 ≤ get_or s i 0). sign-long s at (too_long s at low w i h l p (tenth s at low w i h q)))
-          (lt-or-ge (get_or s i 0) 128)
+          (cases_lt (get_or s i 0) 128)

@@ -1,6 +1,8 @@
 -- What a number that reads keeps to: it takes one to ten of the bytes there, and its value is in range.
 -- Assumes nothing.
-use Rattle.std.proofs.Common.{◌≡◌, ℕ, zero, suc, ◌+◌, ◌^◌, ◌<◌, ◌≤◌, Bool, true, false, List, [], ◌∷◌, length, drop, ℤ, sym, refl, ap, ◌∙◌, ⊎_elim, arith, length-drop, ltb-true}
+use Rattle.std.proofs.Common.{◌≡◌, ℕ, zero, suc, ◌+◌, ◌^◌, ◌<◌, ◌≤◌, Bool, true, false, List, [], ◌∷◌, length, drop, ℤ, sym, refl, ap, ◌∙◌, ⊎_elim, arith, length-drop, ltb-true, Ok, Err, Result}
+use Rattle.leb128.specs.declared.Cause.{Cause}
+use Rattle.leb128.specs.declared.Cause.TheVariants.{Short, Wide}
 use lib.Signed.{mag}
 use Rattle.reads.specs.Pick.{pick}
 use Rattle.leb128.specs.Leb.{
@@ -19,11 +21,7 @@ use Rattle.leb128.specs.Leb.{
   signed,
 }
 use Rattle.leb128.specs.Answers.{unsigned_from, passed_from, signed_from, unsigned_at, passed_at, signed_at}
-use Rattle.leb128.specs.declared.Unsigned.{Unsigned}
-use Rattle.leb128.specs.declared.Unsigned.TheVariants as u
-use Rattle.leb128.specs.declared.Passed.TheVariants as p
-use Rattle.leb128.specs.declared.Signed.TheVariants as z
-use Rattle.reads.proofs.Orders.{lt-or-ge}
+use Rattle.std.proofs.lemmas.Bool.{cases_lt}
 use Rattle.leb128.proofs.Digits.{never, digits-zero, digits-nil, digits_last, digits_more}
 
 -- ---- what a number was made of
@@ -75,7 +73,7 @@ digits-taken (suc k) (b ∷ bs) v n e =
       within = omega (arith, i.3, t.within);
       few = omega (arith, i.3, t.few);
     })
-    (lt-or-ge b 128)
+    (cases_lt b 128)
 
 module _ (bs : List ℕ) (n : ℕ) where
   pub unsigned-inv : (v : ℕ) → unsigned bs ≡ number v n → (x : ℕ) × (digits 10 bs ≡ number x n) × (v < 2 ^ 64)
@@ -106,53 +104,53 @@ module _ (bs : List ℕ) (n : ℕ) where
 
 module _ (s : List ℕ) (at : ℕ) where
   pub unsigned-at-inv :
-      (v n : ℕ) → unsigned_at s at ≡ u.Value v n → (m : ℕ) × (unsigned (drop at s) ≡ number v m) × (n ≡ at + m)
+      (v n : ℕ) → unsigned_at s at ≡ Ok (v, n) → (m : ℕ) × (unsigned (drop at s) ≡ number v m) × (n ≡ at + m)
   unfolding unsigned_at
   unsigned-at-inv v n e = go (unsigned (drop at s)) e
     where
-      go : (d : Leb ℕ) → unsigned_from at d ≡ u.Value v n → (m : ℕ) × (d ≡ number v m) × (n ≡ at + m)
-      go (number x m) q = let a : x ≡ v = cc in let b : n ≡ at + m = cc in (m, ap (λ y. number y m) a, b)
+      go : (d : Leb ℕ) → unsigned_from at d ≡ Ok (v, n) → (m : ℕ) × (d ≡ number v m) × (n ≡ at + m)
+      go (number x m) q = let p : (x, at + m) ≡ (v, n) = cc in let a : x ≡ v = ap (λ (y, k). y) p in let b : n ≡ at + m = sym (ap (λ (y, k). k) p) in (m, ap (λ y. number y m) a, b)
       go short q = never (cc)
       go wide q = never (cc)
 
   pub signed-at-inv :
-      (v : ℤ) (n : ℕ) → signed_at s at ≡ z.Value v n → (m : ℕ) × (signed (drop at s) ≡ number v m) × (n ≡ at + m)
+      (v : ℤ) (n : ℕ) → signed_at s at ≡ Ok (v, n) → (m : ℕ) × (signed (drop at s) ≡ number v m) × (n ≡ at + m)
   unfolding signed_at
   signed-at-inv v n e = go (signed (drop at s)) e
     where
-      go : (d : Leb ℤ) → signed_from at d ≡ z.Value v n → (m : ℕ) × (d ≡ number v m) × (n ≡ at + m)
-      go (number x m) q = let a : x ≡ v = cc in let b : n ≡ at + m = cc in (m, ap (λ y. number y m) a, b)
+      go : (d : Leb ℤ) → signed_from at d ≡ Ok (v, n) → (m : ℕ) × (d ≡ number v m) × (n ≡ at + m)
+      go (number x m) q = let p : (x, at + m) ≡ (v, n) = cc in let a : x ≡ v = ap (λ (y, k). y) p in let b : n ≡ at + m = sym (ap (λ (y, k). k) p) in (m, ap (λ y. number y m) a, b)
       go short q = never (cc)
       go wide q = never (cc)
 
-  pub passed-inv : (n : ℕ) → passed_at s at ≡ p.Next n → (v : ℕ) × (unsigned_at s at ≡ u.Value v n)
+  pub passed-inv : (n : ℕ) → passed_at s at ≡ Ok n → (v : ℕ) × (unsigned_at s at ≡ Ok (v, n))
   unfolding passed_at
   passed-inv n e = go (unsigned_at s at) e
     where
-      go : (r : Unsigned) → passed_from r ≡ p.Next n → (v : ℕ) × (r ≡ u.Value v n)
-      go (u.Value v m) q = let a : m ≡ n = cc in (v, ap (u.Value v) a)
-      go u.Short q = never (cc)
-      go u.Wide q = never (cc)
+      go : (r : Result (ℕ × ℕ) Cause) → passed_from r ≡ Ok n → (v : ℕ) × (r ≡ Ok (v, n))
+      go (Ok (v, m)) q = let a : m ≡ n = cc in (v, ap (λ k. Ok (v, k)) a)
+      go (Err Short) q = never (cc)
+      go (Err Wide) q = never (cc)
 
   within : (k m n : ℕ) → n ≡ at + m → Taken k (drop at s) m → (at < n) × (n ≤ length s)
   within k m n e t = (omega (arith, t.some), omega (arith, t.some, t.within, length-drop at s))
 
   -- reading goes on, and stays in the list
-  pub unsigned-next : (v n : ℕ) → unsigned_at s at ≡ u.Value v n → (at < n) × (n ≤ length s)
+  pub unsigned-next : (v n : ℕ) → unsigned_at s at ≡ Ok (v, n) → (at < n) × (n ≤ length s)
   unsigned-next v n e =
       let i = unsigned-at-inv v n e in
       within 10 i.0 n i.2 (unsigned-taken (drop at s) i.0 v i.1)
 
-  pub passed-next : (n : ℕ) → passed_at s at ≡ p.Next n → (at < n) × (n ≤ length s)
+  pub passed-next : (n : ℕ) → passed_at s at ≡ Ok n → (at < n) × (n ≤ length s)
   passed-next n e = let i = passed-inv n e in unsigned-next i.0 n i.1
 
-  pub signed-next : (v : ℤ) (n : ℕ) → signed_at s at ≡ z.Value v n → (at < n) × (n ≤ length s)
+  pub signed-next : (v : ℤ) (n : ℕ) → signed_at s at ≡ Ok (v, n) → (at < n) × (n ≤ length s)
   signed-next v n e =
       let i = signed-at-inv v n e in
       within 10 i.0 n i.2 (signed-taken (drop at s) i.0 v i.1)
 
-  pub unsigned-value-lt : (v n : ℕ) → unsigned_at s at ≡ u.Value v n → v < 2 ^ 64
+  pub unsigned-value-lt : (v n : ℕ) → unsigned_at s at ≡ Ok (v, n) → v < 2 ^ 64
   unsigned-value-lt v n e = let i = unsigned-at-inv v n e in unsigned-lt (drop at s) i.0 v i.1
 
-  pub signed-value-lt : (v : ℤ) (n : ℕ) → signed_at s at ≡ z.Value v n → mag v < 2 ^ 63
+  pub signed-value-lt : (v : ℤ) (n : ℕ) → signed_at s at ≡ Ok (v, n) → mag v < 2 ^ 63
   signed-value-lt v n e = let i = signed-at-inv v n e in signed_lt (drop at s) i.0 v i.1

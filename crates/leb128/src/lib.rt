@@ -5,29 +5,10 @@
 ghost use Rattle.std.specs.Prelude.{◌≡◌};
 ghost use Rattle.leb128.specs.Answers.{unsigned_at, passed_at, signed_at};
 
-// The unsigned number at a place, and the place after it.
-// Short: the bytes end before the number does. Wide: it is 2^64 or above, or its tenth byte asks for another.
+// Why a number doesn't read. Short: the bytes end before it does. Wide: it is outside 64 bits, or its tenth byte asks
+// for another.
 #[derive(Clone, Copy)]
-pub enum Unsigned {
-    Value { value: u64, next: usize },
-    Short,
-    Wide,
-}
-
-// The place after the unsigned number at a place, whatever its value. Short and Wide are those of `Unsigned`.
-#[derive(Clone, Copy)]
-pub enum Passed {
-    Next(usize),
-    Short,
-    Wide,
-}
-
-// The signed number at a place, and the place after it.
-// Short: the bytes end before the number does. Wide: it is below -2^63 or above 2^63-1, or its tenth byte asks for
-// another.
-#[derive(Clone, Copy)]
-pub enum Signed {
-    Value { value: i64, next: usize },
+pub enum Cause {
     Short,
     Wide,
 }
@@ -37,7 +18,7 @@ const TENTH: u64 = 0x8000_0000_0000_0000;
 
 // The unsigned number at `at` and the place after it. Short where the bytes end first, also past the end of `s`.
 // Wide where it is 2^64 or above or longer than ten bytes (document 01, "LEB128").
-pub fn unsigned_at(s: &[u8], at: usize) -> Unsigned
+pub fn unsigned_at(s: &[u8], at: usize) -> Result<(u64, usize), Cause>
     ensures { result ≡ unsigned_at s.now at }
 {
     // The value of the bytes passed, and the weight of the next one, which counts them. The loop has the first nine:
@@ -50,27 +31,27 @@ pub fn unsigned_at(s: &[u8], at: usize) -> Unsigned
         if b < 128 {
             let value = sum + b * unit;
             let after = i + 1;
-            return Unsigned::Value { value, next: after };
+            return Ok((value, after));
         }
         sum = sum + (b - 128) * unit;
         unit = unit * 128;
         i = i + 1;
     }
-    if i < s.len() {
-        // Nine bytes have 63 bits, so a tenth one adds one bit, and asks for no other.
-        let tenth = s[i] as u64;
-        if 1 < tenth {
-            return Unsigned::Wide;
-        }
+    if s.len() <= i {
+        return Err(Cause::Short);
+    }
+    // Nine bytes have 63 bits, so a tenth one adds one bit, and asks for no other.
+    let tenth = s[i] as u64;
+    if tenth <= 1 {
         let value = sum + tenth * unit;
         let end = i + 1;
-        return Unsigned::Value { value, next: end };
+        return Ok((value, end));
     }
-    Unsigned::Short
+    Err(Cause::Wide)
 }
 
 // The place after the unsigned number at `at`, whose value is not put together. Short and Wide as for `unsigned_at`.
-pub fn pass_at(s: &[u8], at: usize) -> Passed
+pub fn pass_at(s: &[u8], at: usize) -> Result<usize, Cause>
     ensures { result ≡ passed_at s.now at }
 {
     let mut passed: usize = 0;
@@ -79,7 +60,7 @@ pub fn pass_at(s: &[u8], at: usize) -> Passed
         let b = s[i];
         if b < 128 {
             let past = i + 1;
-            return Passed::Next(past);
+            return Ok(past);
         }
         passed = passed + 1;
         i = i + 1;
@@ -89,17 +70,18 @@ pub fn pass_at(s: &[u8], at: usize) -> Passed
         let tenth = s[i];
         if tenth < 2 {
             let end = i + 1;
-            return Passed::Next(end);
+            return Ok(end);
         }
-        return Passed::Wide;
+        Err(Cause::Wide)
+    } else {
+        Err(Cause::Short)
     }
-    Passed::Short
 }
 
 // The signed number at `at` and the place after it: two's complement in seven bits a byte. Short where the bytes end
 // first, also past the end of `s`. Wide where it is below -2^63, above 2^63-1 or longer than ten bytes (document 01,
 // "LEB128").
-pub fn signed_at(s: &[u8], at: usize) -> Signed
+pub fn signed_at(s: &[u8], at: usize) -> Result<(i64, usize), Cause>
     ensures { result ≡ signed_at s.now at }
 {
     // The value of the bytes passed, and the weight of the next one, as in `unsigned_at`.
@@ -114,9 +96,9 @@ pub fn signed_at(s: &[u8], at: usize) -> Signed
             // branch on the sign is hard to foresee.
             let seven = (b + 64) % 128;
             let above = low + seven * weight;
-            let bits = std::num::wrapping_sub_u64(above, 64 * weight);
+            let bits = above.wrapping_sub(64 * weight);
             let value = int64::of_bits(bits);
-            return Signed::Value { value, next };
+            return Ok((value, next));
         }
         low = low + (b - 128) * weight;
         weight = weight * 128;
@@ -128,15 +110,15 @@ pub fn signed_at(s: &[u8], at: usize) -> Signed
         if tenth == 0 {
             let value = int64::of_bits(low);
             let end = i + 1;
-            return Signed::Value { value, next: end };
+            return Ok((value, end));
         }
         if tenth == 127 {
             let bits = low + TENTH;
             let value = int64::of_bits(bits);
             let end = i + 1;
-            return Signed::Value { value, next: end };
+            return Ok((value, end));
         }
-        return Signed::Wide;
+        return Err(Cause::Wide);
     }
-    Signed::Short
+    Err(Cause::Short)
 }

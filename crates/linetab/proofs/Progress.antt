@@ -2,7 +2,7 @@
 -- Assumes nothing.
 use Rattle.std.proofs.Common.{◌≡◌, ℕ, zero, suc, ◌+◌, ◌<◌, ◌≤◌, Bool, true, false, eqb, List, length, get_or, ℤ, pos, negsuc, refl, subst, ⊎_elim, arith, le-ltb, lt-ltb}
 use Rattle.reads.specs.Pick.{pick}
-use Rattle.reads.proofs.Orders.{lt-or-ge}
+use Rattle.std.proofs.lemmas.Bool.{cases_lt}
 use Rattle.leb128.specs.Answers.{unsigned_at, signed_at}
 use Rattle.leb128.specs.declared.Unsigned.{Unsigned}
 use Rattle.leb128.specs.declared.Unsigned.TheVariants as u
@@ -99,7 +99,7 @@ module _ (h : LineTableHeader) (ops : List ℕ) where
         ⊎_elim
         (λ (l : t.at < length ops). rw (lt-ltb _ _ l) (opcode-ahead t.row t.at (get_or ops t.at 0) l))
         (λ (l : length ops ≤ t.at). rw (le-ltb _ _ l) l)
-        (lt-or-ge t.at (length ops))
+        (cases_lt t.at (length ops))
 
     pub ok-ahead : (q : LineState) → step_of h ops t ≡ Ok q → Onward t.at (length ops) q.at
     ok-ahead q e = subst (Ahead t.at (length ops)) e step-ahead

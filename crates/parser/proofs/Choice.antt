@@ -3,7 +3,7 @@
 -- Assumes nothing.
 use Rattle.std.proofs.Common.{◌≡◌, ℕ, zero, suc, ◌+◌, ◌-◌, ◌/◌, ◌<◌, ◌≤◌, ◌⊎◌, List, length, get_or, refl, ap, subst, inl, inr, ⊎_elim, arith, le-leb}
 use borrow.Author.Tests.{lt-leb}
-use Rattle.reads.proofs.Orders.{lt-or-ge}
+use Rattle.std.proofs.lemmas.Bool.{cases_lt}
 use Rattle.parser.specs.declared.Found.{Found}
 use Rattle.parser.specs.declared.Found.TheVariants.{At, Unknown}
 use Rattle.parser.specs.Search.{halving, chosen_from, find_in, Chosen, Right, NeverFalls, Rises, LastNotAbove}
@@ -37,7 +37,7 @@ module _ (table : List ℕ) (wanted : ℕ) where
       (λ (l : len - len / 2 ≤ len / 2).
       let e : lo + len / 2 ≡ lo + (len - len / 2) = omega arith in
       inr (inl (subst (λ x. wanted < get_or table x 0) e g)))
-      (lt-or-ge (len / 2) (len - len / 2))
+      (cases_lt (len / 2) (len - len / 2))
 
   halving-chosen :
       (k lo len : ℕ) → 1 ≤ len → len ≤ k → lo + len ≤ length table → get_or table lo 0 ≤ wanted → Ended (lo + len)
@@ -56,9 +56,9 @@ module _ (table : List ℕ) (wanted : ℕ) where
       let e : lo + len ≡ lo + len / 2 + (len - len / 2) = omega arith in
       rw (le-leb _ _ g)
       (halving-chosen k (lo + len / 2) (len - len / 2) (omega arith) (omega arith) (omega arith) g (subst Ended e b)))
-      (lt-or-ge wanted (get_or table (lo + len / 2) 0))))
+      (cases_lt wanted (get_or table (lo + len / 2) 0))))
       (λ (l : len ≤ 1). rw (le-leb _ _ l) (at-end lo len p l f n b))
-      (lt-or-ge 1 len)
+      (cases_lt 1 len)
 
   all-chosen :
       0 < length table → get_or table 0 0 ≤ wanted → Chosen table wanted (chosen_from table wanted 0 (length table))
@@ -77,10 +77,10 @@ module _ (table : List ℕ) (wanted : ℕ) where
       (λ (l : get_or table 0 0 ≤ wanted).
       subst (Right table wanted) (find_at table wanted (chosen_from table wanted 0 (length table)) n l refl)
       (l, all-chosen p l))
-      (lt-or-ge wanted (get_or table 0 0)))
+      (cases_lt wanted (get_or table 0 0)))
       (λ (p : length table ≤ 0).
       let e : length table ≡ 0 = omega arith in subst (Right table wanted) (find-empty table wanted e) (inl e))
-      (lt-or-ge 0 (length table))
+      (cases_lt 0 (length table))
 
   pub found-chosen : (i : ℕ) → find_in table wanted ≡ At i → (get_or table 0 0 ≤ wanted) × Chosen table wanted i
   found-chosen i e = subst (Right table wanted) e chosen
@@ -114,7 +114,7 @@ module _ (table : List ℕ) (wanted : ℕ) where
 
     module _ (i : ℕ) (h : Chosen table wanted i) where
       same : (f : Found) → Right table wanted f → f ≡ At i
-      same (At j) r = ap At (by (lt-or-ge i j) (lt-or-ge j i))
+      same (At j) r = ap At (by (cases_lt i j) (cases_lt j i))
         where
           by : (i < j) ⊎ (j ≤ i) → (j < i) ⊎ (i ≤ j) → j ≡ i
           by (inl l) b = absurd (omega (arith, (chosen_last i h).above-after j l r.1.inside, r.1.not-above))

@@ -9,7 +9,7 @@ use Rattle.reads.specs.declared.Read8.TheVariants as r8
 use Rattle.reads.specs.declared.Read16.TheVariants as r16
 use Rattle.reads.specs.declared.Read32.TheVariants as r32
 use Rattle.reads.specs.declared.Read64.TheVariants as r64
-use Rattle.reads.proofs.Orders.{lt-or-ge}
+use Rattle.std.proofs.lemmas.Bool.{cases_lt}
 use Rattle.reads.proofs.Places.{there}
 use Rattle.parser.specs.Numbers.{num_at, pair_at}
 use Rattle.parser.specs.declared.fixed.Pair.TheVariants as pair
@@ -92,7 +92,7 @@ module _ (s : List ℕ) (at : ℕ) where
       let f : pair.Is a b ≡ pair.Unread = simp (lt-leb _ _ l) at e in
       let z : ◌≡◌ {A = ℕ} 0 1 = cc in never z)
       (λ (l : 8 ≤ length s - at). omega arith)
-      (lt-or-ge (length s - at) 8)
+      (cases_lt (length s - at) 8)
 
 -- the bytes from a place on: the part up to the end, and none past it
 module _ (file : List ℕ) (place : ℕ) where

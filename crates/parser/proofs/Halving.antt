@@ -3,7 +3,7 @@
 use Rattle.std.proofs.Common.{◌≡◌, ℕ, zero, suc, ◌+◌, ◌-◌, ◌/◌, ◌<◌, ◌≤◌, leb, List, length, get_or, refl, ap, ⊎_elim, arith, le-ltb, lt-ltb, eq-eqb, ne_eqb, le-leb}
 use borrow.Author.Tests.{lt-leb}
 use Rattle.reads.specs.Pick.{pick}
-use Rattle.reads.proofs.Orders.{lt-or-ge}
+use Rattle.std.proofs.lemmas.Bool.{cases_lt}
 use Rattle.parser.specs.declared.Found.TheVariants.{At, Unknown}
 use Rattle.parser.specs.Search.{halving, chosen_from, find_in}
 
@@ -23,7 +23,7 @@ module _ (table : List ℕ) (wanted : ℕ) where
       (λ (l : 1 < len). let half : ℕ = len / 2 in
       ap (pick (leb len 1) lo) (enough k j (moved table wanted lo half) (len - half) (omega arith) (omega arith)))
       (λ (l : len ≤ 1). rw (le-leb _ _ l))
-      (lt-or-ge 1 len)
+      (cases_lt 1 len)
 
   pub chosen-from-end : (lo len : ℕ) → len ≤ 1 → chosen_from table wanted lo len ≡ lo
   unfolding chosen_from halving

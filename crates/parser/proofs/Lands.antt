@@ -5,7 +5,7 @@ use Rattle.std.proofs.Common.{◌≡◌, ℕ, zero, suc, ◌+◌, ◌-◌, ◌<�
 use lib.ListN.{length-map}
 use borrow.Author.Tests.{lt-leb}
 use Rattle.reads.specs.Pick.{pick}
-use Rattle.reads.proofs.Orders.{lt-or-ge}
+use Rattle.std.proofs.lemmas.Bool.{cases_lt}
 use Rattle.types.specs.declared.Address.{Address}
 use Rattle.parser.specs.declared.Tables.{Tables}
 use Rattle.parser.specs.declared.Found.{Found}
@@ -73,7 +73,7 @@ module _ (base : ℕ) (table : List ℕ) where
         let m : addr - base < e = omega arith in lt-leb _ _ l ∙ sym (lt-leb _ _ m))
         (λ (l : base + e ≤ addr).
         let m : e ≤ addr - base = omega arith in le-leb _ _ l ∙ sym (le-leb _ _ m))
-        (lt-or-ge addr (base + e))
+        (cases_lt addr (base + e))
 
     moved_none : addr < base → land_of (map (λ e. base + e) table) addr ≡ Unknown
     moved_none h =
@@ -105,4 +105,4 @@ module _ (file : List ℕ) (t : Tables) (addr : Address) where
       rw (le-ltb _ _ l)
       (find-lands (addr.0 - t.base.0) (table_of file t) up
       ∙ sym (land-moved t.base.0 (table_of file t) addr.0 l)))
-      (lt-or-ge addr.0 t.base.0)
+      (cases_lt addr.0 t.base.0)

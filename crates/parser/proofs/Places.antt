@@ -8,7 +8,7 @@ use Rattle.reads.specs.declared.Read16.{Read16}
 use Rattle.reads.specs.declared.Read16.TheVariants as r16
 use Rattle.reads.specs.declared.Read32.{Read32}
 use Rattle.reads.specs.declared.Read32.TheVariants as r32
-use Rattle.reads.proofs.Orders.{lt-or-ge}
+use Rattle.std.proofs.lemmas.Bool.{cases_lt}
 use Rattle.types.specs.declared.FileIndex.{FileIndex}
 use Rattle.parser.specs.Numbers.{num_at, pair_at}
 use Rattle.parser.specs.declared.Tables.{Tables}
@@ -37,7 +37,7 @@ module _ (file : List ℕ) (t : Tables) where
       ⊎_elim
       (λ (l : b < a). let f : Refused n ≡ Is t = simp (lt-leb _ _ l) at e in refused-is n t f)
       (λ (l : a ≤ b). (l, simp (le-leb _ _ l) at e))
-      (lt-or-ge b a)
+      (cases_lt b a)
 
   files-within : (h : Header) (n : ℕ) → with_files file h n ≡ Is t → Within file t
   unfolding with_files

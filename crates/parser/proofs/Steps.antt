@@ -7,7 +7,7 @@ use Rattle.reads.specs.Bytes.{Fixed, value, unread, le_at}
 use Rattle.reads.specs.Answers.{as32, u32_at}
 use Rattle.reads.specs.declared.Read32.{Read32}
 use Rattle.reads.specs.declared.Read32.TheVariants as r32
-use Rattle.reads.proofs.Orders.{lt-or-ge}
+use Rattle.std.proofs.lemmas.Bool.{cases_lt}
 use Rattle.reads.proofs.Places.{within}
 use Rattle.parser.specs.declared.Item.TheVariants.{Is, Closed, Torn}
 use Rattle.parser.specs.Items.{on_len, on_kind, item_at}
@@ -83,7 +83,7 @@ module _ (file : List ℕ) (at kind place len next : ℕ) where
       let c : n ≡ len = cc in
       let d : at + 8 + n ≡ next = cc in
       record { kind-not-zero = λ q. z (a ∙ q); place_is = sym b; next-is = omega arith; inside = omega arith })
-      (lt-or-ge (length file) (at + 8 + n))
+      (cases_lt (length file) (at + 8 + n))
   len-ahead k r32.Unread z e = torn-is e
 
   kind-ahead : (r : Read32) → on_kind file at r ≡ Is kind place len next → Ahead file at kind place len next

@@ -1,7 +1,7 @@
 -- The entry that is chosen for an address in a file: what it is, its symbol's address, and where there is none.
 -- Assumes nothing.
 use Rattle.std.proofs.Common.{◌≡◌, ℕ, ◌+◌, ◌-◌, ◌^◌, ◌<◌, ◌≤◌, Bool, true, false, List, length, get_or, drop, sym, refl, ◌∙◌, ⊎_elim, mod-eq_of_lt, arith, le-ltb, lt-ltb}
-use Rattle.reads.proofs.Orders.{lt-or-ge}
+use Rattle.std.proofs.lemmas.Bool.{cases_lt}
 use Rattle.types.specs.declared.Address.{Address}
 use Rattle.parser.specs.declared.Tables.{Tables}
 use Rattle.parser.specs.declared.Found.TheVariants.{At, Unknown}
@@ -33,7 +33,7 @@ module _ (file : List ℕ) (t : Tables) (addr : Address) where
         (λ (l : addr.0 < t.base.0).
         let u = find-below-base l in let z : ◌≡◌ {A = ℕ} 0 1 = cc in never z)
         (λ (l : t.base.0 ≤ addr.0). l)
-        (lt-or-ge addr.0 t.base.0)
+        (cases_lt addr.0 t.base.0)
 
     pub find-chosen : Chosen (table_of file t) (addr.0 - t.base.0) i
     find-chosen =
@@ -73,14 +73,14 @@ module _ (file : List ℕ) (t : Tables) (addr : Address) where
       (λ (z : length (table_of file t) ≡ 0). no_table w z)
       (λ (g : addr.0 - t.base.0 < get_or (table_of file t) 0 0). first_above g)
       (unknown-why (table_of file t) (addr.0 - t.base.0) (sym (find-in-table l) ∙ e)))
-      (lt-or-ge addr.0 t.base.0)
+      (cases_lt addr.0 t.base.0)
 
   empty-unknown : length (table_of file t) ≡ 0 → find_of file t addr ≡ Unknown
   empty-unknown e =
       ⊎_elim
       (λ (l : addr.0 < t.base.0). find-below-base l)
       (λ (l : t.base.0 ≤ addr.0). find-in-table l ∙ sym (find-empty (table_of file t) (addr.0 - t.base.0) e))
-      (lt-or-ge addr.0 t.base.0)
+      (cases_lt addr.0 t.base.0)
 
   pub unknown-find : Nowhere file t addr → find_of file t addr ≡ Unknown
   unknown-find (below-base h) = find-below-base h
@@ -96,5 +96,5 @@ module _ (file : List ℕ) (t : Tables) (addr : Address) where
       (λ (p : 0 < length (table_of file t)).
       find-in-table l ∙ sym (find-above (table_of file t) (addr.0 - t.base.0) (λ z. omega arith) h))
       (λ (p : length (table_of file t) ≤ 0). empty-unknown (omega arith))
-      (lt-or-ge 0 (length (table_of file t))))
-      (lt-or-ge addr.0 t.base.0)
+      (cases_lt 0 (length (table_of file t))))
+      (cases_lt addr.0 t.base.0)

@@ -4,7 +4,7 @@
 use Rattle.std.proofs.Common.{◌≡◌, ℕ, ◌+◌, ◌-◌, ◌*◌, ◌/◌, ◌^◌, ◌<◌, ◌≤◌, Bool, true, false, leb, List, length, get_or, drop, sym, refl, ap, ◌∙◌, ⊎_elim, arith, le-ltb, lt-ltb, le-leb}
 use borrow.Author.Tests.{lt-leb}
 use Rattle.reads.specs.Pick.{pick}
-use Rattle.reads.proofs.Orders.{lt-or-ge}
+use Rattle.std.proofs.lemmas.Bool.{cases_lt}
 use Rattle.types.specs.declared.Address.{Address}
 use Rattle.parser.specs.Numbers.{num_at}
 use Rattle.parser.specs.declared.Tables.{Tables}
@@ -38,14 +38,14 @@ module _ (entry wanted half : ℕ) where
         ⊎_elim
         (λ (n : near < 4294967295). let e = is n in omega arith)
         (λ (n : 4294967295 ≤ near). omega arith)
-        (lt-or-ge near 4294967295)
+        (cases_lt near 4294967295)
 
     pub step-near : half * ((4294967296 + near - entry) / 4294967296) ≡ pick (leb entry wanted) half 0
     step-near =
         ⊎_elim
         (λ (l : wanted < entry). rw (lt-leb _ _ l, less l) (omega arith))
         (λ (l : entry ≤ wanted). rw (le-leb _ _ l, more l) (omega arith))
-        (lt-or-ge wanted entry)
+        (cases_lt wanted entry)
 
     pub step_fits : half * ((4294967296 + near - entry) / 4294967296) ≤ half
     step_fits = step-le (half * ((4294967296 + near - entry) / 4294967296)) step-near

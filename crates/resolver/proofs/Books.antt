@@ -10,7 +10,7 @@ use lib.ListN.{drop}
 use lib.Seq.{drop-drop}
 use native.Mathlib.Omega.{arith}
 use Rattle.reads.specs.Pick.{pick}
-use Rattle.reads.proofs.Orders.{lt-or-ge}
+use Rattle.std.proofs.lemmas.Bool.{cases_lt}
 use Rattle.types.specs.declared.FileIndex.{FileIndex}
 use Rattle.types.specs.declared.StrOffset.{StrOffset}
 use Rattle.types.specs.declared.Text.{Text}
@@ -104,7 +104,7 @@ module _ (file : List ℕ) (t : Tables) (w : Within file t) where
       file-reads file t w index l ∙ sym (nth-there t.file_count index.0 (drop t.files file) l))
       (λ (l : t.file_count ≤ index.0).
       sym (file-none file t index l) ∙ sym (nth-none t.file_count index.0 (drop t.files file) l))
-      (lt-or-ge index.0 t.file_count)
+      (cases_lt index.0 t.file_count)
 
   module _ (offset : StrOffset) where
     pub text_in-book :

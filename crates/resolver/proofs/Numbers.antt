@@ -15,7 +15,7 @@ use Rattle.reads.specs.declared.Read16.{Read16}
 use Rattle.reads.specs.declared.Read16.TheVariants as r16
 use Rattle.reads.specs.declared.Read32.{Read32}
 use Rattle.reads.specs.declared.Read32.TheVariants as r32
-use Rattle.reads.proofs.Orders.{lt-or-ge}
+use Rattle.std.proofs.lemmas.Bool.{cases_lt}
 use Rattle.types.specs.declared.Address.{Address}
 use Rattle.types.specs.declared.Options.{Options}
 use Rattle.linetab.specs.declared.RowFound.TheVariants as found
@@ -131,7 +131,7 @@ module _ (file : List ℕ) (addr : Address) (o : Options) (room : ℕ) where
       ⊎_elim
       (λ (l : 0 < (lookup_of file addr o room).answer.number). h _ (lookup-met file addr o room _ refl l))
       (λ (l : (lookup_of file addr o room).answer.number ≤ 0). omega arith)
-      (lt-or-ge 0 (lookup_of file addr o room).answer.number)
+      (cases_lt 0 (lookup_of file addr o room).answer.number)
 
   pub met-no : (n : ℕ) → Met file addr o room n → (1 ≤ n) × (n ≤ 14)
   met-no n (unopened e) = let k = opened-no file n e in (omega (arith, k.0), omega (arith, k.1))

@@ -16,7 +16,7 @@ use Rattle.strtab.specs.declared.StrTable.{StrTable}
 use Rattle.strtab.specs.declared.TextRead.TheVariants.{Is, Unread}
 use Rattle.strtab.specs.declared.Len.{Len}
 use Rattle.strtab.specs.declared.Len.TheVariants.{Spans, Nothing}
-use Rattle.reads.proofs.Orders.{lt-or-ge}
+use Rattle.std.proofs.lemmas.Bool.{cases_lt}
 use Rattle.strtab.proofs.Texts.{Inside}
 
 module _ (file : List ℕ) (place len : ℕ) where
@@ -48,7 +48,7 @@ module _ {read : List ℕ → ℕ → Len} (inside : Inside read) where
       (λ (l : place + size ≤ length file).
       rw (le-leb _ _ l)
       (omega (arith, length-take-le size (drop place file) (omega (arith, length-drop place file)))))
-      (lt-or-ge (length file) (place + size))
+      (cases_lt (length file) (place + size))
 
   module _ (file : List ℕ) (table : StrTable) (offset : StrOffset) where
     in-part : in_table read file table offset
@@ -60,7 +60,7 @@ module _ {read : List ℕ → ℕ → Len} (inside : Inside read) where
         rw (lt-leb _ _ l)
         (sym (ap (placed (table.place + offset.0)) (nothing-in offset.0 (read [] offset.0) refl))))
         (λ (l : table.place + table.size ≤ length file). rw (le-leb _ _ l))
-        (lt-or-ge (length file) (table.place + table.size))
+        (cases_lt (length file) (table.place + table.size))
 
     -- s is the table's part of the file, and l what is read in it
     module _ (s : List ℕ) (l : Len)

@@ -12,7 +12,7 @@ use Rattle.reads.specs.Pick.{pick}
 use Rattle.strtab.specs.Utf8.{Range, range, within, tail, Start, starts, nowhere, begun}
 use Rattle.strtab.specs.Utf8.{followers, octets, utf8, sequence_len}
 use Rattle.strtab.specs.Steps.{second, met, sized, char_len}
-use Rattle.reads.proofs.Orders.{lt-or-ge}
+use Rattle.std.proofs.lemmas.Bool.{cases_lt}
 use Rattle.strtab.proofs.Ranges.{in-range}
 use Rattle.strtab.proofs.Leading.{shape, followers-shape, followers-ascii, sequence-len-le}
 
@@ -95,7 +95,7 @@ module _ (s : List ℕ) (i : ℕ) (h : i < length s) where
       ⊎_elim
       (λ (l : length (drop (suc i) s) < length rs). absurd (true≢false (sym m.2 ∙ met-short rs (drop (suc i) s) l)))
       (λ (l : length rs ≤ length (drop (suc i) s)). omega (arith, m.1, length-drop (suc i) s))
-      (lt-or-ge (length (drop (suc i) s)) (length rs))
+      (cases_lt (length (drop (suc i) s)) (length rs))
 
   start_fits : (st : Start) (n : ℕ) → sized st (drop (suc i) s) ≡ n → 0 < n → i + n ≤ length s
   start_fits (starts rs) n e z = met-fits rs n e z
@@ -144,7 +144,7 @@ module _ {s : List ℕ} {i n : ℕ} where
       ⊎_elim
       (λ (k : n < 1). let q : n ≡ 0 = omega arith in q ∙ sym (opened h 0 q))
       (λ (k : 1 ≤ n). let q : n ≡ 1 = omega arith in q ∙ sym (opened h 1 q))
-      (lt-or-ge n 1)
+      (cases_lt n 1)
 
   pub cut : Lead s i n → 2 ≤ n → length s - i < n → 0 ≡ char_len (drop i s)
   cut h l k =

@@ -11,7 +11,7 @@ use native.Mathlib.Omega.{arith}
 use borrow.Author.Tests.{le-leb}
 use Rattle.strtab.specs.Utf8.{Range, range, tail, Start, starts, nowhere, followers, sequence_len, size_of}
 use Rattle.strtab.specs.Steps.{second}
-use Rattle.reads.proofs.Orders.{lt-or-ge}
+use Rattle.std.proofs.lemmas.Bool.{cases_lt}
 use Rattle.strtab.proofs.Ranges.{over-range}
 use Rattle.strtab.proofs.Table.{both, both_left, both_right, at}
 
@@ -42,7 +42,7 @@ sequence-len-size b =
       over-range 0xf1 0xf3 b (omega arith),
       over-range 0xf4 0xf4 b (omega arith),
     ))
-    (lt-or-ge b 256)
+    (cases_lt b 256)
 
 -- a byte below 80 is a character
 pub followers-ascii : (b : ℕ) → b ≤ 0x7f → followers b ≡ starts []

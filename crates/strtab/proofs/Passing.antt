@@ -11,7 +11,7 @@ use borrow.Author.Tests.{lt-ltb, le-ltb, eq-eqb, ne_eqb}
 use Rattle.strtab.specs.Strings.{longer, before_zero, text_in}
 use Rattle.strtab.specs.declared.Len.{Len}
 use Rattle.strtab.specs.declared.Len.TheVariants.{Spans, Nothing}
-use Rattle.reads.proofs.Orders.{lt-or-ge}
+use Rattle.std.proofs.lemmas.Bool.{cases_lt}
 
 pub longer-none : (l : Len) → l ≡ longer 0 l
 longer-none (Spans n) = let e : n ≡ 0 + n = omega arith in ap Spans e
@@ -58,7 +58,7 @@ text-begin s at =
     ⊎_elim
     (λ (l : at < length s). rw (lt-ltb _ _ l))
     (λ (l : length s ≤ at). rw (le-ltb _ _ l, drop_of_length-le s l))
-    (lt-or-ge at (length s))
+    (cases_lt at (length s))
 
 pub text-more : (b : ℕ) (bs : List ℕ) → (b ≡ 0 → ⊥) → before_zero (b ∷ bs) ≡ longer 1 (before_zero bs)
 unfolding before_zero

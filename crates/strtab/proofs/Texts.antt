@@ -21,7 +21,7 @@ use Rattle.strtab.specs.declared.StrTable.{StrTable}
 use Rattle.strtab.specs.declared.TextRead.TheVariants.{Is, Unread}
 use Rattle.strtab.specs.declared.Len.{Len}
 use Rattle.strtab.specs.declared.Len.TheVariants.{Spans, Nothing}
-use Rattle.reads.proofs.Orders.{lt-or-ge}
+use Rattle.std.proofs.lemmas.Bool.{cases_lt}
 
 never : {A : Type 0} → ◌≡◌ {A = ℕ} 0 1 → A
 never z = absurd (omega arith)
@@ -76,7 +76,7 @@ module _ (s : List ℕ) (at n : ℕ) where
       (λ (l : length s ≤ at).
       let e' : Nothing ≡ Spans n = simp (le-ltb _ _ l) at e in
       let z : ◌≡◌ {A = ℕ} 0 1 = cc in never z)
-      (lt-or-ge at (length s))
+      (cases_lt at (length s))
 
   judged-is : (l : Len) → judged (drop at s) l ≡ Spans n → (l ≡ Spans n) × (utf8 (take n (drop at s)) ≡ true)
   judged-is Nothing e = let z : ◌≡◌ {A = ℕ} 0 1 = cc in never z
@@ -128,7 +128,7 @@ module _ (read : List ℕ → ℕ → Len) (file : List ℕ) (table : StrTable) 
       let bytes : List ℕ = take table.size (drop table.place file) in
       let p = placed-is (table.place + offset.0) (read bytes offset.0) t (simp (le-leb _ _ l) at e) in
       record { fits = l; counted = p.0; spans = p.1 })
-      (lt-or-ge (length file) (table.place + table.size))
+      (cases_lt (length file) (table.place + table.size))
 
 -- a part of the table is a part of the file
 module _ (file : List ℕ) (place size at len : ℕ) (f : place + size ≤ length file) (g : at + len ≤ size) where

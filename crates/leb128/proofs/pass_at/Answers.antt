@@ -22,8 +22,8 @@ returns-then-tenth-lt2 c =
     in
     pass-tenth _ _ _ _ c.loop-i.invariant c.if-i-s.true far c.if-tenth-lt2.true
 
-pub returns-then-i-s : goal.returns-then-i-s
-returns-then-i-s c =
+pub returns-else-tenth-lt2 : goal.returns-else-tenth-lt2
+returns-else-tenth-lt2 c =
     let far : 9 ≤ c.loop-i.passed =
     elim c.loop-i-test.branch [
       | then-loop-i-test+else-passed-lt9 w ↦ omega arith
@@ -32,5 +32,5 @@ returns-then-i-s c =
     in
     pass-above _ _ _ _ c.loop-i.invariant c.if-i-s.true far c.if-tenth-lt2.false
 
-pub returns : goal.returns
-returns c = pass-ended _ _ _ _ c.loop-i.invariant c.if-i-s.false
+pub returns-else-i-s : goal.returns-else-i-s
+returns-else-i-s c = pass-ended _ _ _ _ c.loop-i.invariant c.if-i-s.false

@@ -29,16 +29,15 @@ pub overflow_add-above : goal.overflow_add-above
 overflow_add-above c =
     omega (arith, (signed-last _ _ _ _ _ c.loop-i.invariant c.loop-i-test.true (omega arith) (omega arith)).0)
 
-pub overflow_mul-weight : goal.overflow_mul-weight
-overflow_mul-weight c =
+pub overflow_mul-bits : goal.overflow_mul-bits
+overflow_mul-bits c =
     omega (arith, (signed-last _ _ _ _ _ c.loop-i.invariant c.loop-i-test.true (omega arith) (omega arith)).1)
 
 pub returns-then-b-lt128 : goal.returns-then-b-lt128
 returns-then-b-lt128 c =
     let last = signed-last _ _ _ _ _ c.loop-i.invariant c.loop-i-test.true (omega arith) (omega arith) in
-    let sub = c.wrapping_sub_u64-bits in
     made _ _ _ _ c.of_bits-value.type_inv c.of_bits-value.ensures
-    (last.2 sub.result (omega arith) sub.ensures.value)
+    (last.2 _ (omega arith) (omega arith))
 
 pub overflow_mul-low : goal.overflow_mul-low
 overflow_mul-low c =
@@ -48,8 +47,8 @@ pub overflow_add-low : goal.overflow_add-low
 overflow_add-low c =
     omega (arith, (turn _ _ _ _ _ c.loop-i.invariant c.loop-i-test.true (omega arith) (omega arith) (omega arith)).0)
 
-pub overflow_mul-weight-in-loop-i : goal.overflow_mul-weight-in-loop-i
-overflow_mul-weight-in-loop-i c =
+pub overflow_mul-weight : goal.overflow_mul-weight
+overflow_mul-weight c =
     omega (arith, (turn _ _ _ _ _ c.loop-i.invariant c.loop-i-test.true (omega arith) (omega arith) (omega arith)).1)
 
 pub loop-i-preserved : goal.loop-i-preserved

@@ -1,8 +1,7 @@
 -- `leb128::unsigned_at` meets its contract: nine bytes stay below 2^63, and of tenth ones only 0 and 1 fit.
 -- Assumes nothing.
-use Rattle.std.proofs.Common.{◌≡◌, ℕ, ◌+◌, ◌-◌, ◌*◌, ◌^◌, ◌<◌, ◌≤◌, List, length, get_or, inl, inr, arith}
+use Rattle.std.proofs.Common.{◌≡◌, ℕ, ◌+◌, ◌-◌, ◌*◌, ◌^◌, ◌<◌, ◌≤◌, List, length, get_or, inl, inr, arith, Ok}
 use Rattle.leb128.specs.Answers.{unsigned_at}
-use Rattle.leb128.specs.declared.Unsigned.TheVariants.{Value}
 use Rattle.leb128.proofs.Turn.{Sofar, goes_on}
 use Rattle.leb128.proofs.Plain.{plain-ended, plain-last, plain-above}
 use Rattle.leb128.proofs.unsigned_at.Goals as goal
@@ -12,7 +11,7 @@ use Rattle.leb128.proofs.unsigned_at.Goals.{then-loop-i-test+else-unit-lt-TENTH,
 last :
     (s : List ℕ) (at sum unit i : ℕ) → Sofar s at sum unit i → i < length s → get_or s i 0 < 128 → unit < 2 ^ 63 →
     let v = sum + get_or s i 0 * unit in
-    (v < 2 ^ 64) × (Value v (i + 1) ≡ unsigned_at s at)
+    (v < 2 ^ 64) × (Ok (v, i + 1) ≡ unsigned_at s at)
 last s at sum unit i h l t u = plain-last s at sum unit i h l t (inr u)
 
 -- one more group: its value, the weight after it, and what is read then
@@ -50,22 +49,22 @@ pub loop-i-preserved : goal.loop-i-preserved
 loop-i-preserved c =
     (turn _ _ _ _ _ c.loop-i.invariant c.loop-i-test.true (omega arith) (omega arith) (omega arith)).2
 
-pub returns-then-tenth-gt1 : goal.returns-then-tenth-gt1
-returns-then-tenth-gt1 c =
-    let heavy : 2 ^ 63 ≤ c.loop-i.unit =
-    elim c.loop-i-test.branch [
-      | then-loop-i-test+else-unit-lt-TENTH w ↦ omega arith
-      | else-loop-i-test w ↦ absurd (omega arith)
-    ]
-    in
-    plain-above _ _ _ _ _ c.loop-i.invariant c.if-i-s.true heavy c.if-tenth-gt1.true
+pub returns-then-s-i : goal.returns-then-s-i
+returns-then-s-i c = plain-ended _ _ _ _ _ c.loop-i.invariant c.if-s-i.true
 
-pub overflow_add-value-then-i-s : goal.overflow_add-value-then-i-s
-overflow_add-value-then-i-s c =
-    omega (arith, (plain-last _ _ _ _ _ c.loop-i.invariant c.if-i-s.true (omega arith) (inl (omega arith))).0)
+pub overflow_add-value-then-tenth-le1 : goal.overflow_add-value-then-tenth-le1
+overflow_add-value-then-tenth-le1 c =
+    omega (arith, (plain-last _ _ _ _ _ c.loop-i.invariant (omega arith) (omega arith) (inl (omega arith))).0)
 
-pub returns-then-i-s : goal.returns-then-i-s
-returns-then-i-s c = (plain-last _ _ _ _ _ c.loop-i.invariant c.if-i-s.true (omega arith) (inl (omega arith))).1
+pub returns-then-tenth-le1 : goal.returns-then-tenth-le1
+returns-then-tenth-le1 c = (plain-last _ _ _ _ _ c.loop-i.invariant (omega arith) (omega arith) (inl (omega arith))).1
 
 pub returns : goal.returns
-returns c = plain-ended _ _ _ _ _ c.loop-i.invariant c.if-i-s.false
+returns c =
+    let heavy : 2 ^ 63 ≤ c.loop-i.unit =
+        elim c.loop-i-test.branch [
+          then-loop-i-test+else-unit-lt-TENTH w ↦ omega arith
+        | else-loop-i-test w ↦ absurd (omega arith)
+        ]
+    in
+    plain-above _ _ _ _ _ c.loop-i.invariant (omega arith) heavy (omega arith)
