@@ -3,7 +3,7 @@
 #   make install                    PREFIX=/usr/local DESTDIR= ; BINDIR, INCLUDEDIR, LIBDIR, MANDIR may be given too
 #   make uninstall                  with the same words
 #   make check                      sh test.sh: every proof, every edit, every program
-#   make clean, make distclean      what make built; distclean also what rt keeps in target/
+#   make clean, make distclean      what make built; distclean also target/ and what rt keeps in crates/*/out
 # CC, CPPFLAGS, CFLAGS, LDFLAGS, LDLIBS, INSTALL and RT are honoured.
 PREFIX = /usr/local
 DESTDIR =
@@ -20,14 +20,21 @@ INSTALL_DATA = $(INSTALL) -m 644
 RT ?= rt
 
 HEADER = include/gsym.h
-SOURCES := crates.txt $(shell find crates -name '*.rt' -o -name '*.antt')
+SOURCES := crates.txt $(shell find crates -name out -prune -o \( -name '*.rt' -o -name '*.antt' \) -print)
 part = $(shell sed -n 's/^\#define GSYM_VERSION_$(1) \([0-9]*\)$$/\1/p' $(HEADER))
 VERSION = $(call part,MAJOR).$(call part,MINOR).$(call part,PATCH)
 
 all: libgsym.a gsym-addr2line gsym.pc
 
 libgsym.a: $(SOURCES)
-	$(RT) staticlib gsym_c && cp target/staticlib/libgsym_c.a $@
+	cd crates/gsym_c && $(RT) lib
+	cp crates/gsym_c/out/libgsym_c.a $@
+
+# parts of the reader, for the comparison and the bench
+target/libreader_c.a: $(SOURCES)
+	cd crates/reader_c && $(RT) lib
+	mkdir -p target
+	cp crates/reader_c/out/libreader_c.a $@
 
 TOOL = host/gsym-addr2line.c host/print.c
 
@@ -59,7 +66,7 @@ clean:
 	rm -f libgsym.a gsym-addr2line gsym.pc
 
 distclean: clean
-	rm -rf target
+	rm -rf target crates/*/out
 
 FORCE:
 

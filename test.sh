@@ -1,5 +1,5 @@
 #!/bin/sh
-# All tests, from nothing: the kit's version, the layout of the sources, the promises' page, every proof, every
+# All tests, from nothing: the kit's version, the promises' page, every proof, the layout of the sources, every
 # must-fail edit and every program, then what hosts get and the comparison with the Rust. The last line printed is
 # rt's own 'N passed, M failed'; the exit status is 0 only where nothing failed. Needs the Rattle toolchain and no
 # network.
@@ -18,7 +18,6 @@ found=$(rt version)
 [ "$found" = "$pinned" ] || fail "this repository is proved with '$pinned' (README.md), and this machine has '$found': \
 install that kit, or prove all anew with this one and change the pin"
 
-rt fmt --check || fail "run 'rt fmt': the files above are not in the layout"
 sh tests/promises.sh || fail "docs/PROMISES.md and the public functions disagree (above)"
 
 # rt's last line is held back until the edits' reasons are judged, so that it stays the last one printed
@@ -27,7 +26,7 @@ trap 'rm -rf "$tmp"' EXIT
 { rt ci 2>&1; echo $? >"$tmp/status"; } | tee "$tmp/log" | sed '$d'
 status=$(cat "$tmp/status")
 if [ "$status" = 0 ]; then
-    sh tests/edits.sh || status=1
+    sh tests/edits.sh "$tmp/log" || status=1
     sh tests/replay.sh || status=1
     sh tests/vectors/check.sh || status=1
     sh tests/hosts.sh || status=1

@@ -10,7 +10,7 @@ corpus=${GSYM_CORPUS:-../shared/corpus}
 tmp=$(mktemp -d)
 trap 'rm -rf "$tmp"' EXIT
 xz -dc "$corpus/vmlinux612.gsym.xz" >"$tmp/vmlinux"
-rt staticlib reader_c >"$tmp/rt.log" 2>&1 || { tail -n 20 "$tmp/rt.log"; exit 1; }
+make libgsym.a target/libreader_c.a >"$tmp/rt.log" 2>&1 || { tail -n 20 "$tmp/rt.log"; exit 1; }
 echo "$(date +%F), $(rt version), $(rustc --version)"
 echo "$(uname -m), $(nproc) processors$(sed -n 's/^model name[^:]*: /, /p' /proc/cpuinfo | head -n 1)"
 
@@ -34,7 +34,7 @@ for build in whole one; do
     for kind in line inline; do
         program=$tmp/${kind}_$build
         rustc --edition 2021 -C opt-level=3 -L "$tmp/$build" --extern "oracle=$tmp/$build/liboracle.rlib" \
-            -L target/staticlib -l static=reader_c -o "$program" "bench/$kind.rs"
+            -L target -l static=reader_c -o "$program" "bench/$kind.rs"
         echo
         echo "$kind blocks, the Rust built as: $name"
         "$program" "$tmp/vmlinux" check
@@ -48,8 +48,7 @@ for build in whole one; do
 done
 
 # whole lookups, through the bindings that Rust hosts use; the Rust as a whole module
-rt staticlib gsym_c >"$tmp/rt.log" 2>&1 || { tail -n 20 "$tmp/rt.log"; exit 1; }
-cp target/staticlib/libgsym_c.a "$tmp/libgsym.a"
+cp libgsym.a "$tmp/libgsym.a"
 rustc --edition 2021 -C opt-level=3 --crate-type rlib --crate-name gsym -o "$tmp/libgsym.rlib" bindings/rust/src/lib.rs
 rustc --edition 2021 -C opt-level=3 -L "$tmp/whole" --extern "oracle=$tmp/whole/liboracle.rlib" -L "$tmp" \
     --extern "gsym=$tmp/libgsym.rlib" -l static=gsym -o "$tmp/lookup" bench/lookup.rs
@@ -98,7 +97,7 @@ if command -v python3 >/dev/null 2>&1; then
     python3 bench/plot.py <"$tmp/scale" >bench/results/entries.svg && echo "plotted in bench/results/entries.svg"
 fi
 
-rustc --edition 2021 -O -L target/staticlib -l static=reader_c -o "$tmp/stack" bench/stack.rs
+rustc --edition 2021 -O -L target -l static=reader_c -o "$tmp/stack" bench/stack.rs
 echo
 "$tmp/stack" 16384 open
 "$tmp/stack" 16384 closed

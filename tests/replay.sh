@@ -1,6 +1,6 @@
 #!/bin/sh
 # The replay programs can fail: given a vector of each kind with another expected answer, each reports that one and no
-# other. Needs target/bin/reader_cases and lookup_cases, which `rt ci` and `rt check` build.
+# other. Needs the programs of the crates reader_cases and lookup_cases, which `rt ci` and `rt run` build.
 set -u
 cd "$(dirname "$0")/.." || exit 2
 tmp=$(mktemp -d) || exit 2
@@ -8,7 +8,7 @@ trap 'rm -rf "$tmp"' EXIT
 
 # replay PROGRAM WHAT: the cases end with a remark that counts right and wrong ones; WHAT says what is wrong in them
 replay() {
-    program=target/bin/$1
+    program=crates/$1/out/$1
     [ -x "$program" ] || { echo "replay: $program is not built"; exit 1; }
     right=$(sed -n 's/^# right \([0-9]*\) wrong [0-9]*$/\1/p' "$tmp/$1")
     wrong=$(sed -n 's/^# right [0-9]* wrong \([0-9]*\)$/\1/p' "$tmp/$1")

@@ -1,14 +1,15 @@
 #!/bin/sh
-# The C host test: proves and builds the library, compiles face.c as C and, where there is a C++ compiler, as C++, and
-# stack.c, and runs them. Prints one line; the exit status is 3 where there is nothing to compile them with.
+# The C host test: proves and builds the library by `make`, compiles face.c as C and, where there is a C++ compiler, as
+# C++, and stack.c, and runs them. Prints one line; the exit status is 3 where there is nothing to compile them with.
 # CC, CXX and CFLAGS are honoured.
 set -u
 cd "$(dirname "$0")/../.." || exit 2
 cc=${CC:-cc}
 cxx=${CXX:-c++}
 flags="${CFLAGS:--O2} -Wall -Wextra -Werror -Iinclude"
-library=target/staticlib/libgsym_c.a
+library=libgsym.a
 command -v "$cc" >/dev/null 2>&1 || { echo "tests/c: not run, this machine has no C compiler '$cc'"; exit 3; }
+command -v make >/dev/null 2>&1 || { echo "tests/c: not run, this machine has no 'make'"; exit 3; }
 machine=$(uname -m)
 [ "$machine" = x86_64 ] || { echo "tests/c: not run, the library is for x86-64 and this machine is $machine"; exit 3; }
 
@@ -20,7 +21,7 @@ fail() {
     exit 1
 }
 
-rt staticlib gsym_c >"$tmp/all" 2>&1
+make $library >"$tmp/all" 2>&1
 status=$?
 tail -n 20 "$tmp/all" >"$tmp/log"
 [ "$status" = 0 ] || fail "the library isn't proved"

@@ -13,7 +13,7 @@ cd "$(dirname "$0")/../.." || exit 2
 here=tests/fuzz
 clang=${CLANG:-clang}
 out=${1:-target/fuzz}
-library=target/staticlib/libgsym_c.a
+library=libgsym.a
 [ "$(uname -m)" = x86_64 ] || { echo "fuzz: not built, the library is for x86-64"; exit 3; }
 command -v "$clang" >/dev/null 2>&1 || { echo "fuzz: not built, there is no '$clang' here"; exit 3; }
 command -v rt >/dev/null 2>&1 || { echo "fuzz: not built, the toolchain's command 'rt' is not on the PATH"; exit 2; }
@@ -24,13 +24,12 @@ printf 'int LLVMFuzzerTestOneInput(const char *d, unsigned long n) { return d ==
     { echo "fuzz: not built, '$clang' has no libFuzzer or no sanitizers"; exit 3; }
 rm -f "$out/probe" "$out/probe.c"
 
-rt staticlib gsym_c >"$out/log" 2>&1 || { tail -n 20 "$out/log"; echo "fuzz: the library isn't proved"; exit 1; }
+make $library >"$out/log" 2>&1 || { tail -n 20 "$out/log"; echo "fuzz: the library isn't proved"; exit 1; }
 
 # ---- the same library with counters
 
 kit=$(command -v rt)
 kit=${RATTLE_HOME:-$(dirname "$(dirname "$(readlink -f "$kit")")")}
-own=$kit/on/$(uname -m)
 
 # a script for clang: it reads the module, marks each function for AddressSanitizer, and compiles it with what rattle
 # asks for and the instrumentation
@@ -42,7 +41,7 @@ for word in "\$@"; do
     shift
     case \$word in
     *.bc)
-        '$own/toolchain/bin/clang' --target=x86_64-unknown-linux-gnu --no-default-config -x ir "\$word" -S -emit-llvm \\
+        '$kit/toolchain/bin/clang' --target=x86_64-unknown-linux-gnu --no-default-config -x ir "\$word" -S -emit-llvm \\
             -O0 -Xclang -disable-llvm-passes -o '$out/module.plain.ll' || exit 1
         sed 's/^\(define .*\) {\$/\1 sanitize_address {/' '$out/module.plain.ll' >'$out/module.ll' || exit 1
         set -- "\$@" '$out/module.ll'
@@ -50,7 +49,7 @@ for word in "\$@"; do
     *) set -- "\$@" "\$word" ;;
     esac
 done
-exec '$own/toolchain/bin/clang' "\$@" -fsanitize-coverage=inline-8bit-counters,pc-table,trace-cmp -fsanitize=address
+exec '$kit/toolchain/bin/clang' "\$@" -fsanitize-coverage=inline-8bit-counters,pc-table,trace-cmp -fsanitize=address
 EOF
     sh tests/with_clang.sh "$out/clang" "$out/libgsym_counted.a"
 }

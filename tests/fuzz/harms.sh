@@ -6,7 +6,7 @@ set -u
 cd "$(dirname "$0")/../.." || exit 2
 clang=${CLANG:-clang}
 out=target/fuzz
-library=target/staticlib/libgsym_c.a
+library=libgsym.a
 command -v "$clang" >/dev/null 2>&1 || { echo "harms: not run, there is no '$clang' here"; exit 3; }
 [ -d $out/first ] && [ -f $library ] || { echo "harms: not run, tests/fuzz/run.sh has not run here"; exit 3; }
 tmp=$(mktemp -d) || exit 2

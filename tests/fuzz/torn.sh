@@ -6,7 +6,7 @@ set -u
 cd "$(dirname "$0")/../.." || exit 2
 cc=${CC:-cc}
 corpus=${GSYM_CORPUS:-../shared/corpus}
-library=target/staticlib/libgsym_c.a
+library=libgsym.a
 command -v "$cc" >/dev/null 2>&1 || { echo "torn: not run, this machine has no C compiler '$cc'"; exit 3; }
 machine=$(uname -m)
 [ "$machine" = x86_64 ] || { echo "torn: not run, the library is for x86-64 and this machine is $machine"; exit 3; }
@@ -18,7 +18,7 @@ done
 
 tmp=$(mktemp -d) || exit 2
 trap 'rm -rf "$tmp"' EXIT
-rt staticlib gsym_c >"$tmp/log" 2>&1 || { tail -n 20 "$tmp/log"; echo "torn: the library isn't proved"; exit 1; }
+make $library >"$tmp/log" 2>&1 || { tail -n 20 "$tmp/log"; echo "torn: the library isn't proved"; exit 1; }
 # shellcheck disable=SC2086
 "$cc" -std=c11 ${CFLAGS:--O2} -Wall -Wextra -Werror -Wno-unused-function -Iinclude -o "$tmp/torn" tests/fuzz/torn.c \
     "$library" >"$tmp/log" 2>&1 || { cat "$tmp/log"; echo "torn: torn.c doesn't compile"; exit 1; }

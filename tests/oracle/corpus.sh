@@ -12,9 +12,9 @@ trap 'rm -rf "$tmp"' EXIT
 status=0
 sh tests/oracle/build.sh "$tmp" || status=$?
 [ "$status" = 0 ] || exit "$status"
-rt staticlib reader_c >"$tmp/rt.log" 2>&1 || { tail -n 20 "$tmp/rt.log"; exit 1; }
+make target/libreader_c.a >"$tmp/rt.log" 2>&1 || { tail -n 20 "$tmp/rt.log"; exit 1; }
 for kind in line inline; do
-    rustc --edition 2021 -O -L "$tmp" --extern "oracle=$tmp/liboracle.rlib" -L target/staticlib -l static=reader_c \
+    rustc --edition 2021 -O -L "$tmp" --extern "oracle=$tmp/liboracle.rlib" -L target -l static=reader_c \
         -o "$tmp/$kind" "bench/$kind.rs"
 done
 for packed in "$corpus"/*.gsym.xz; do

@@ -15,9 +15,8 @@ for tool in rustc python3 rt; do
 done
 kit=$(command -v rt)
 kit=${RATTLE_HOME:-$(dirname "$(dirname "$(readlink -f "$kit")")")}
-own=$kit/on/x86_64
 for tool in clang llvm-ar; do
-    [ -x "$own/toolchain/bin/$tool" ] ||
+    [ -x "$kit/toolchain/bin/$tool" ] ||
         { echo "harmed: the toolchain has no '$tool' of its own, so no fault was tried"; exit 3; }
 done
 tmp=$(mktemp -d)
@@ -32,16 +31,16 @@ cat >"$tmp/clang" <<END
 for word in "\$@"; do
     case \$word in
     *.bc)
-        '$own/toolchain/bin/clang' --target=x86_64-unknown-linux-gnu --no-default-config -x ir "\$word" -S -emit-llvm \\
+        '$kit/toolchain/bin/clang' --target=x86_64-unknown-linux-gnu --no-default-config -x ir "\$word" -S -emit-llvm \\
             -O0 -Xclang -disable-llvm-passes -o '$tmp/as_built.ll' || exit 1
         ;;
     esac
 done
-exec '$own/toolchain/bin/clang' "\$@"
+exec '$kit/toolchain/bin/clang' "\$@"
 END
 sh tests/with_clang.sh "$tmp/clang" "$tmp/as_built.a" >"$tmp/log" 2>&1 ||
     { tail -n 20 "$tmp/log"; echo "harmed: the library isn't built"; exit 1; }
-cmp "$tmp/as_built.a" target/staticlib/libgsym_c.a || { echo "harmed: this is another library than hosts get"; exit 1; }
+cmp "$tmp/as_built.a" libgsym.a || { echo "harmed: this is another library than hosts get"; exit 1; }
 [ -f "$tmp/as_built.ll" ] || { echo "harmed: this toolchain hands its clang no module, so no fault was tried"; exit 1; }
 # The text without the promises that no sum wraps and no place lies outside: a fault is to give a wrong answer, not one
 # that the compiler may choose.
@@ -50,10 +49,10 @@ sed 's/ nuw / /g; s/ nsw / /g; s/ inbounds / /g' "$tmp/as_built.ll" >"$tmp/modul
 # ---- the comparison over a module
 
 compare_with() {
-    "$own/toolchain/bin/clang" --target=x86_64-unknown-linux-gnu -march=x86-64 --no-default-config -fPIC -O1 -c \
+    "$kit/toolchain/bin/clang" --target=x86_64-unknown-linux-gnu -march=x86-64 --no-default-config -fPIC -O1 -c \
         -x ir "$1" -o "$tmp/module.o" || return 1
     rm -f "$tmp/libgsym.a" "$tmp/compare"
-    "$own/toolchain/bin/llvm-ar" rcs "$tmp/libgsym.a" "$tmp/module.o" || return 1
+    "$kit/toolchain/bin/llvm-ar" rcs "$tmp/libgsym.a" "$tmp/module.o" || return 1
     rustc --edition 2021 -C opt-level=1 -C incremental="$tmp/steps" -L "$tmp" --extern "oracle=$tmp/liboracle.rlib" \
         --extern "gsym=$tmp/libgsym.rlib" -l static=gsym -l static=reader_c -o "$tmp/compare" $here/compare/main.rs
 }

@@ -4,9 +4,6 @@
 set -eu
 cd "$(dirname "$0")/../.."
 out=${1:?the folder to build in}
-for crate in gsym_c reader_c; do
-    rt staticlib $crate >"$out/rt.log" 2>&1 || { tail -n 20 "$out/rt.log"; exit 1; }
-done
-cp target/staticlib/libgsym_c.a "$out/libgsym.a"
-cp target/staticlib/libreader_c.a "$out/libreader_c.a"
+make libgsym.a target/libreader_c.a >"$out/rt.log" 2>&1 || { tail -n 20 "$out/rt.log"; exit 1; }
+cp libgsym.a target/libreader_c.a "$out/"
 rustc --edition 2021 -O --crate-type rlib --crate-name gsym -o "$out/libgsym.rlib" bindings/rust/src/lib.rs

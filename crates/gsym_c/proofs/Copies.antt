@@ -5,7 +5,7 @@ use Prim.Native.Nat.{ℕ, zero, suc, ◌+◌, ◌*◌, ◌<◌, ◌≤◌}
 use mathlib.Core.List.{List, [], ◌∷◌, ◌++◌, map, head-eq_of_cons-eq, tail-eq_of_cons-eq}
 use mathlib.Core.Path.{◌≡◌, refl, sym, ap, ◌∙◌}
 use lib.ListN.{length, get_or, set, take, drop, length-append, length-set, length-take}
-use lib.Seq.{drop-cons, drop-drop, length-take-le}
+use lib.Seq.{drop-cons, drop-drop}
 use native.Mathlib.Nat.{zero-add, suc-add, mul-zero, mul-suc}
 use native.Mathlib.Numerals.{add-one}
 use native.Mathlib.Omega.{arith}
@@ -35,17 +35,6 @@ row-cells width k xs h =
     let e : suc k ≡ k + 1 = omega arith in
     rw (drop-cons xs k 0 (omega arith), e)
     (ap (λ (l : List ℕ). get_or xs k 0 ∷ l) (sym (cells-taken width k 1 xs (omega arith))))
-
--- ---- a part of some space
-
-pub part_length : (n : ℕ) (space : List ℕ) → n ≤ length space → n ≡ length (take n space)
-part_length n space h = sym (length-take-le n space h)
-
--- records for a room
-pub part_room :
-    (width room wanted : ℕ) (space : List ℕ) → width * room ≤ length space → room ≡ wanted →
-    length (take (width * room) space) ≡ width * wanted
-part_room width room wanted space h e = length-take-le (width * room) space h ∙ ap (λ (k : ℕ). width * k) e
 
 -- ---- the loop
 

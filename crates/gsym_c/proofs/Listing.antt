@@ -1,9 +1,10 @@
 -- A block's frames in a list of numbers, and their copy in a lent list of records.
 -- Assumes nothing.
-use Prim.Native.Nat.{ℕ, ◌*◌, ◌/◌, ◌≤◌, min}
+use Prim.Native.Nat.{ℕ, ◌*◌, ◌≤◌, min}
 use mathlib.Core.List.{List, [], ◌∷◌, ◌++◌}
 use mathlib.Core.Path.{◌≡◌, refl, sym, ap, ◌∙◌}
-use lib.ListN.{length, take, drop}
+use lib.ListN.{length, take, drop, replicate, length-take}
+use Rattle.std.proofs.lemmas.List.{length-replicate}
 use native.Mathlib.Omega.{arith}
 use Rattle.types.specs.declared.InlineFrame.{InlineFrame}
 use Rattle.inline.specs.declared.Listed.{Listed}
@@ -20,33 +21,39 @@ flat-joined [] = refl
 flat-joined (f ∷ fs) =
     ap (λ (l : List ℕ). f.name.0 ∷ f.call_file.0 ∷ f.call_line.0 ∷ l) (flat-joined fs)
 
--- a store of three numbers for each frame has the room of the lent list
-same-room : (n m : ℕ) → n ≡ 3 * min 64 m → min 64 (n / 3) ≡ min 64 m
-same-room n m e = omega arith
+-- space for the numbers of so many frames, as the call makes it
+abbrev pub space_for : ℕ → List ℕ
+space_for n = take (3 * n) (replicate 192 0)
 
 module _
     (bytes : List ℕ)
     (symbol addr : ℕ)
-    (store after : List ℕ)
+    (n : ℕ)
+    (after : List ℕ)
     (entry : List (List ℕ))
     (l : Listed)
-    (room : length store ≡ 3 * min 64 (length entry))
-    (L : Lists bytes symbol addr store after l)
+    (m : n ≡ min (length entry) 64)
+    (L : Lists bytes symbol addr (space_for n) after l)
   where
     block : Block
     block = block_at bytes symbol addr entry
 
-    same_block : block_of symbol addr (room_of store) bytes ≡ block
+    size : length (space_for n) ≡ 3 * min 64 (length entry)
+    size = omega (arith, m, length-take (3 * n) (replicate {A = ℕ} 192 0), length-replicate {A = ℕ} 192 0)
+
+    room : room_of (space_for n) ≡ min 64 (length entry)
+    room = omega (arith, size)
+
+    same_block : block_of symbol addr (room_of (space_for n)) bytes ≡ block
     unfolding block
-    same_block =
-        ap (λ (k : ℕ). block_of symbol addr k bytes) (same-room (length store) (length entry) room)
+    same_block = ap (λ (k : ℕ). block_of symbol addr k bytes) room
 
     says : l ≡ listing block
     says = L.says ∙ ap listing same_block
 
     counts : l.count ≡ length (frames_of block)
     counts =
-        count-is bytes symbol addr store after l L
+        count-is bytes symbol addr (space_for n) after l L
         ∙ ap (λ (b : Block). length (frames_of b)) same_block
 
     numbers : take (3 * length (frames_of block)) after ≡ joined row_of (frames_of block)
@@ -60,7 +67,7 @@ module _
     pub block-fits : (3 * l.count ≤ length after) × (l.count ≤ length entry)
     block-fits =
         let f = rows_fit row_of 3 (λ _. refl) (frames_of block) after numbers in
-        (omega (arith, counts), omega (arith, counts, L.kept, room))
+        (omega (arith, counts), omega (arith, counts, L.kept, size))
 
     -- their copy is what is promised
     pub block-lent :

@@ -1,13 +1,13 @@
 -- A lookup's records in a list of numbers, and their copy in a lent list of records.
 -- Assumes nothing.
-use Prim.Native.Nat.{ℕ, ◌+◌, ◌*◌, ◌≤◌, min}
+use Prim.Native.Nat.{ℕ, ◌+◌, ◌*◌, ◌/◌, ◌≤◌, min}
 use mathlib.Core.Bool.{Bool, true, false, false≢true}
 use mathlib.Core.Logic.{◌⊎◌, inl, inr, ⊎_elim}
 use mathlib.Core.List.{List, [], ◌∷◌, ◌++◌}
 use mathlib.Core.Path.{◌≡◌, refl, sym, ap, subst, ◌∙◌}
-use lib.ListN.{length, take, drop}
+use lib.ListN.{length, take, drop, replicate, length-take}
 use native.Mathlib.Omega.{arith}
-use lib.Seq.{length-take-le}
+use Rattle.std.proofs.lemmas.List.{length-replicate}
 use Rattle.reads.specs.Pick.{pick}
 use Rattle.types.specs.declared.Address.{Address}
 use Rattle.types.specs.declared.Options.{Options}
@@ -85,18 +85,28 @@ module _
     }
 
 -- a part of some space, seven numbers for each record, has room for as many
-module _ (most room len : ℕ) (space : List ℕ) (l : most ≤ 64) (h : 7 * room ≤ length space) (e : room ≡ min most len) where
-  pub part-records : records_in (take (7 * room) space) ≡ min most len
-  part-records = let k = length-take-le (7 * room) space h in omega (arith, k, l, e)
+module _ (len room : ℕ) (space : List ℕ) (e : room ≡ min len (length space / 7)) where
+  part-records : records_in (take (7 * room) space) ≡ min (records_in space) len
+  part-records = omega (arith, e, length-take (7 * room) space)
 
   pub part-few : records_in (take (7 * room) space) ≤ len
   part-few = omega (arith, part-records)
 
   pub part-looks : (file : List ℕ) (addr : Address) (o : Options) (entry exit : List (List ℕ)) (r : GsymAnswer) →
       LooksWith file addr o (records_in (take (7 * room) space)) entry exit r →
-      LooksWith file addr o (min most len) entry exit r
+      LooksWith file addr o (min (records_in space) len) entry exit r
   part-looks file addr o entry exit r L =
       subst (λ (n : ℕ). LooksWith file addr o n entry exit r) part-records L
+
+-- a space of so many numbers has room for a seventh as many records
+pub space-looks :
+    (most : ℕ) (file : List ℕ) (addr : Address) (o : Options) (entry exit : List (List ℕ)) (r : GsymAnswer) → most ≤ 64 →
+    LooksWith file addr o (min (records_in (replicate (7 * most) 0)) (length entry)) entry exit r →
+    LooksWith file addr o (min most (length entry)) entry exit r
+space-looks most file addr o entry exit r l L =
+    let e : min (records_in (replicate (7 * most) 0)) (length entry) ≡ min most (length entry) =
+    omega (arith, l, length-replicate {A = ℕ} (7 * most) 0) in
+    subst (λ (n : ℕ). LooksWith file addr o n entry exit r) e L
 
 -- ---- few frames first
 

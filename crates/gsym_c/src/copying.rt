@@ -22,14 +22,12 @@ fn frame_at(store: &[u32], i: usize) -> [u32; 3]
 
 // Copies the first n frames. The callers give as many, and room for them; what is past them stays.
 pub(crate) fn copy_frames(store: &[u32], n: usize, frames: &mut [[u32; 3]])
-    requires { (3 * n ≤ length store.now) × (n ≤ length frames.old) }
+    requires in_store { 3 * n ≤ length store.now }
+    requires in_list { n ≤ length frames.old }
     ensures { frames.new ≡ rows_over 3 n store.now frames.old }
 {
-    let mut i = 0;
-    while i < n {
-        let row = frame_at(store, i);
-        frames[i] = row;
-        i = i + 1;
+    for i in 0..n {
+        frames[i] = frame_at(store, i);
     }
 }
 
@@ -51,13 +49,11 @@ fn record_at(store: &[u64], i: usize) -> [u64; 7]
 
 // Copies the first n records. The callers give as many, and room for them; what is past them stays.
 pub(crate) fn copy_records(store: &[u64], n: usize, records: &mut [[u64; 7]])
-    requires { (7 * n ≤ length store.now) × (n ≤ length records.old) }
+    requires in_store { 7 * n ≤ length store.now }
+    requires in_list { n ≤ length records.old }
     ensures { records.new ≡ rows_over 7 n store.now records.old }
 {
-    let mut i = 0;
-    while i < n {
-        let row = record_at(store, i);
-        records[i] = row;
-        i = i + 1;
+    for i in 0..n {
+        records[i] = record_at(store, i);
     }
 }

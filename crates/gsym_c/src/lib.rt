@@ -5,7 +5,7 @@
 
 mod copying;
 
-ghost use Rattle.std.specs.Prelude.{◌≡◌, ◌*◌, ◌≤◌, min, length};
+ghost use Rattle.std.specs.Prelude.{◌≡◌, min, length};
 ghost use Rattle.resolver.specs.Stages.{all_options};
 ghost use Rattle.resolver.specs.Rows.{records_in};
 ghost use Rattle.gsym_c.specs.Laid.{ListsBlock};
@@ -44,16 +44,6 @@ pub struct GsymAnswer {
 pub struct GsymListed {
     pub count: u64,
     pub number: u32,
-}
-
-// How many frames a list of this length has room for, where there are at most `most`.
-fn room_in(len: usize, most: usize) -> usize
-    ensures { result ≡ min most len }
-{
-    if most < len {
-        return most;
-    }
-    len
 }
 
 // ---- lookup
@@ -107,55 +97,38 @@ fn lay_out(a: Answer) -> GsymAnswer
     }
 }
 
-// A lookup with position and inlined calls, by way of `store`, which has room for no more records than the lent list.
-fn lookup_by(file: &[u8], addr: Address, store: &mut [u64], records: &mut [[u64; 7]]) -> GsymAnswer
-    requires { records_in store.old ≤ length records.old }
-    ensures { LooksWith file.now addr all_options (records_in store.old)
+// A lookup with position and inlined calls. Its records stand in `space` first, seven numbers each; there is room for no
+// more than fit there and in the lent list.
+fn lookup_by(file: &[u8], addr: Address, space: &mut [u64], records: &mut [[u64; 7]]) -> GsymAnswer
+    ensures { LooksWith file.now addr all_options (min (records_in space.old) (length records.old))
         records.old records.new result }
 {
     let all = Options {
         code_info: true,
         inlining: true,
     };
+    let room = records.len().min(space.len() / RECORD_WIDTH);
+    let store = &mut space[..RECORD_WIDTH * room];
     let answer = resolver::lookup_in(file, addr, all, store);
-    let count = answer.count;
-    copy_records(store, count, records);
+    copy_records(store, answer.count, records);
     lay_out(answer)
 }
 
-// Space for 16 records, seven numbers each.
-fn small_space() -> [u64; 112]
-    ensures { 112 ≡ length result }
-{
-    [0; 112]
-}
-
-// A lookup with position and inlined calls, with room for 16 frames at most.
+// `lookup_by`, with room for 16 frames at most.
 fn lookup_few(file: &[u8], addr: Address, records: &mut [[u64; 7]]) -> GsymAnswer
     ensures { LooksWith file.now addr all_options (min 16 (length records.old))
         records.old records.new result }
 {
-    let n = RECORD_WIDTH * room_in(records.len(), FEW_FRAMES);
-    let mut space = small_space();
-    let all: &mut [u64] = &mut space;
-    lookup_by(file, addr, &mut all[..n], records)
+    let mut space = [0; RECORD_WIDTH * FEW_FRAMES];
+    lookup_by(file, addr, &mut space, records)
 }
 
-// Space for 64 records.
-fn large_space() -> [u64; 448]
-    ensures { 448 ≡ length result }
-{
-    [0; 448]
-}
-
-// A lookup with position and inlined calls, with room for as many frames as there may be.
+// `lookup_by`, with room for as many frames as there may be.
 fn lookup_many(file: &[u8], addr: Address, records: &mut [[u64; 7]]) -> GsymAnswer
     ensures { LooksUp file.now addr all_options records.old records.new result }
 {
-    let n = RECORD_WIDTH * room_in(records.len(), types::MAX_FRAMES);
-    let mut space = large_space();
-    let all: &mut [u64] = &mut space;
-    lookup_by(file, addr, &mut all[..n], records)
+    let mut space = [0; RECORD_WIDTH * types::MAX_FRAMES];
+    lookup_by(file, addr, &mut space, records)
 }
 
 // A lookup with position and inlined calls. Most addresses have few frames, and a large space costs more to fill than
@@ -193,36 +166,6 @@ pub extern "C" fn gsym_lookup(
 
 // ---- a single block
 
-// Space for the frames of a block, three numbers each.
-fn frame_space() -> [u32; 192]
-    ensures { 192 ≡ length result }
-{
-    [0; 192]
-}
-
-// The frames of a block to a lent list, by way of `store`, which has room for as many.
-fn block_by(
-    block: &[u8],
-    symbol: Address,
-    addr: Address,
-    store: &mut [u32],
-    frames: &mut [[u32; 3]],
-) -> GsymListed
-    requires { length store.old ≡ 3 * min 64 (length frames.old) }
-    ensures { ListsBlock block.now symbol.0 addr.0 frames.old frames.new result }
-{
-    let listed = inline::block_in(block, symbol, addr, store);
-    let count = listed.count;
-    let number = listed.number;
-    copy_frames(store, count, frames);
-    let written = count as u64;
-    let refusal = number as u32;
-    GsymListed {
-        count: written,
-        number: refusal,
-    }
-}
-
 // The frames of one block at an address, for the symbol that it belongs to: `inline::block_in`. There is room for the
 // smaller of 64 and the list's length. Written are exactly the frames; a refusal (10 to 14) writes none.
 #[unsafe(no_mangle)]
@@ -234,10 +177,14 @@ pub extern "C" fn gsym_block_frames(
 ) -> GsymListed
     ensures { ListsBlock block.now symbol addr frames.old frames.new result }
 {
-    let n = FRAME_WIDTH * room_in(frames.len(), types::MAX_FRAMES);
-    let mut space = frame_space();
-    let all: &mut [u32] = &mut space;
-    block_by(block, Address(symbol), Address(addr), &mut all[..n], frames)
+    let mut space = [0; FRAME_WIDTH * types::MAX_FRAMES];
+    let store = &mut space[..FRAME_WIDTH * frames.len().min(types::MAX_FRAMES)];
+    let listed = inline::block_in(block, Address(symbol), Address(addr), store);
+    copy_frames(store, listed.count, frames);
+    GsymListed {
+        count: listed.count as u64,
+        number: listed.number as u32,
+    }
 }
 
 // The version of the library.

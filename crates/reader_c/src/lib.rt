@@ -1,5 +1,7 @@
 // Parts of the reader for programs that compare and measure them from C or Rust: each function here only hands its
 // arguments on and lays the answer out as C has it. What a host should call is another crate's business.
+#![tactic(auto)]
+
 ghost use Rattle.std.specs.Prelude.{◌≡◌};
 ghost use Rattle.leb128.specs.Answers.{unsigned_at, signed_at};
 ghost use Rattle.linetab.specs.Rows.{line_row};

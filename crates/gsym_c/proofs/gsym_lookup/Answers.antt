@@ -1,7 +1,7 @@
 -- `gsym_c::gsym_lookup` meets its contract: by whether both options are asked for.
 -- Assumes nothing.
 use Rattle.std.proofs.Common.{sym, ◌∙◌}
-use Rattle.gsym_c.proofs.Looking.{both-asked, plain-asked}
+use Rattle.gsym_c.proofs.Looking.{plain-asked}
 use Rattle.gsym_c.proofs.gsym_lookup.Goals as goal
 
 pub returns : goal.returns
