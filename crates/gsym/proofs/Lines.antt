@@ -1,6 +1,7 @@
 -- The line of a lookup's record is below 2^32, so that the number in a store is the line itself: it is a row's, or the
 -- call line of a frame.
 -- Assumes nothing.
+use Rattle.std.proofs.Common.{Some, None, Ok, Err, Option, Result}
 use Prim.Native.Nat.{ℕ, ◌<◌, ◌^◌}
 use mathlib.Core.Bool.{Bool, true, false}
 use mathlib.Core.List.{List, [], ◌∷◌, map}
@@ -13,16 +14,10 @@ use Rattle.types.specs.declared.Options.{Options}
 use Rattle.types.specs.declared.Frame.{Frame}
 use Rattle.types.specs.declared.InlineFrame.{InlineFrame}
 use Rattle.linetab.specs.declared.LineTableRow.{LineTableRow}
-use Rattle.linetab.specs.declared.RowFound.{RowFound}
-use Rattle.linetab.specs.declared.RowFound.TheVariants as found
-use Rattle.linetab.specs.declared.LineRead.{LineRead}
-use Rattle.linetab.specs.declared.LineRead.TheVariants as line
 use Rattle.linetab.specs.Rows.{line_row}
 use Rattle.linetab.proofs.RowLines.{ReadSmall, line-row-small}
 use Rattle.inline.proofs.Numbers.{never}
 use Rattle.inline.proofs.CallLines.{Capped, BlockCapped, block-capped}
-use Rattle.parser.specs.declared.FileRead.{FileRead}
-use Rattle.parser.specs.declared.FileRead.TheVariants as file
 use Rattle.resolver.specs.Data.{Data, Piece}
 use Rattle.resolver.specs.Book.{Book, nth_file, reads_text, reads_name}
 use Rattle.resolver.specs.Heard.{Ask, ask}
@@ -34,6 +29,9 @@ use Rattle.resolver.proofs.Heards.{RowKnown, row, unread, as_row, row_after, the
 use Rattle.resolver.proofs.FirstBlocks.{heard-frames}
 use Rattle.resolver.proofs.Outcomes.{Saying, unasked, no_row, no_frames, with-frames, say-saying}
 use Rattle.resolver.proofs.Outcomes.{Outcome, refused, said, outcome}
+use Rattle.leb128.specs.declared.Cause.TheVariants.{Short, Wide}
+use Rattle.leb128.specs.declared.Cause.{Cause}
+use Rattle.parser.specs.declared.FileInfo.{FileInfo}
 
 -- ---- lines below 2^32
 
@@ -45,9 +43,9 @@ unfoldable CallsLined : List Call → Type 0
 CallsLined [] = Unit {0}
 CallsLined (c ∷ cs) = (c.site.line < 2 ^ 32) × CallsLined cs
 
-abbrev FoundSmall : RowFound → Type 0
-FoundSmall (found.Row r) = r.file_line.0 < 2 ^ 32
-FoundSmall found.Nothing = Unit {0}
+abbrev FoundSmall : Option LineTableRow → Type 0
+FoundSmall (Some r) = r.file_line.0 < 2 ^ 32
+FoundSmall None = Unit {0}
 
 unfoldable KnownSmall : RowKnown → Type 0
 KnownSmall (row r) = FoundSmall r
@@ -55,34 +53,34 @@ KnownSmall unread = Unit {0}
 
 -- ---- the row
 
-read_known : (x : LineRead) → ReadSmall x → KnownSmall (as_row x)
+read_known : (x : Result (Option LineTableRow) Cause) → ReadSmall x → KnownSmall (as_row x)
 unfolding KnownSmall
-read_known (line.Row r) l = l
-read_known line.Nothing l = tt
-read_known line.Short l = tt
-read_known line.Wide l = tt
+read_known (Ok (Some r)) l = l
+read_known (Ok None) l = tt
+read_known (Err Short) l = tt
+read_known (Err Wide) l = tt
 
-after_small : (q : Ask) (p : Piece) (r : RowFound) → FoundSmall r → KnownSmall (row_after q p r)
+after_small : (q : Ask) (p : Piece) (r : Option LineTableRow) → FoundSmall r → KnownSmall (row_after q p r)
 unfolding row_after KnownSmall
-after_small q p (found.Row r) l = l
-after_small q p found.Nothing l = go (eqb p.kind 1)
+after_small q p (Some r) l = l
+after_small q p None l = go (eqb p.kind 1)
   where
-    go : (t : Bool) → KnownSmall (pick t (as_row (line_row p.bytes q.symbol q.addr)) (row found.Nothing))
+    go : (t : Bool) → KnownSmall (pick t (as_row (line_row p.bytes q.symbol q.addr)) (row None))
     go true =
         read_known (line_row p.bytes q.symbol q.addr) (line-row-small p.bytes q.symbol q.addr)
     go false = tt
 
-rows-small : (q : Ask) (ps : List Piece) (r : RowFound) → FoundSmall r → KnownSmall (rows_alone q ps r)
+rows-small : (q : Ask) (ps : List Piece) (r : Option LineTableRow) → FoundSmall r → KnownSmall (rows_alone q ps r)
 unfolding rows_alone KnownSmall
 rows-small q [] r l = l
 rows-small q (p ∷ ps) r l = go (rows-small q ps) (row_after q p r) (after_small q p r l)
   where
-    go : ((r : RowFound) → FoundSmall r → KnownSmall (rows_alone q ps r)) → (k : RowKnown) → KnownSmall k →
+    go : ((r : Option LineTableRow) → FoundSmall r → KnownSmall (rows_alone q ps r)) → (k : RowKnown) → KnownSmall k →
         KnownSmall (then_row (rows_alone q ps) k)
     go rest (row r) l = rest r l
     go rest unread l = tt
 
-known_small : (r : LineTableRow) → KnownSmall (row (found.Row r)) → r.file_line.0 < 2 ^ 32
+known_small : (r : LineTableRow) → KnownSmall (row (Some r)) → r.file_line.0 < 2 ^ 32
 unfolding KnownSmall
 known_small r l = l
 
@@ -92,8 +90,8 @@ site-line : (b : Book) (index l : ℕ) (s : Site) → site_of b index l ≡ is s
 unfolding site_of site_in
 site-line b index l s e = go (nth_file b.files index) e
   where
-    go : (x : FileRead) → site_in b l x ≡ is s → s.line ≡ l
-    go (file.Is r) e = by_tests (reads_text b r.directory.0) (reads_text b r.filename.0) e
+    go : (x : Option FileInfo) → site_in b l x ≡ is s → s.line ≡ l
+    go (Some r) e = by_tests (reads_text b r.directory.0) (reads_text b r.filename.0) e
       where
         by_tests : (t u : Bool) →
             pick t (pick u (is (record { dir = r.directory.0; file = r.filename.0; line = l })) (no 8)) (no 8)
@@ -102,7 +100,7 @@ site-line b index l s e = go (nth_file b.files index) e
         by_tests true true e = cc
         by_tests true false e = never (let z : ◌≡◌ {A = ℕ} 0 1 = cc in z)
         by_tests false u e = never (let z : ◌≡◌ {A = ℕ} 0 1 = cc in z)
-    go file.Unread e = never (let z : ◌≡◌ {A = ℕ} 0 1 = cc in z)
+    go None e = never (let z : ◌≡◌ {A = ℕ} 0 1 = cc in z)
 
 calls-lined : (b : Book) (fs : List InlineFrame) (cs : List Call) → Capped fs → calls_of b fs ≡ calls cs → CallsLined cs
 unfolding calls_of Capped CallsLined
@@ -149,9 +147,9 @@ module _ (b : Book) (symbol : Address) (d : Data) (addr : Address) (o : Options)
   saying-lined (no_frames r s A h k u v w) = none-lined w
   saying-lined (with-frames r f fs s ds A h k n c u v w) =
       let q = ask symbol addr room o.inlining in
-      let D = heard-frames q d.items found.Nothing (found.Row r) f fs h in
-      let parts = heard-parts q d.items found.Nothing [] (found.Row r) (f ∷ fs) h in
-      let known-row = subst KnownSmall parts.0 (rows-small q d.items found.Nothing tt) in
+      let D = heard-frames q d.items None (Some r) f fs h in
+      let parts = heard-parts q d.items None [] (Some r) (f ∷ fs) h in
+      let known-row = subst KnownSmall parts.0 (rows-small q d.items None tt) in
       let on : s.line < 2 ^ 32 =
       omega (arith, site-line b r.file_idx.0 r.file_line.0 s k, known_small r known-row) in
       let all = subst BlockCapped D.gives (block-capped symbol.0 addr.0 room D.this.bytes) in

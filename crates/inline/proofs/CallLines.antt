@@ -1,5 +1,9 @@
 -- The call line of a block's frame is below 2^32: a number above becomes 2^32 - 1.
 -- Assumes nothing.
+use Rattle.inline.specs.declared.head.Fault.{Fault}
+use Rattle.std.proofs.Common.{Ok, Err, Some, None, Option, Result}
+use Rattle.leb128.specs.Answers.{unsigned_at}
+use Rattle.leb128.specs.declared.Cause.{Cause}
 use Prim.Native.Nat.{ℕ, zero, suc, ◌+◌, ◌<◌, ◌^◌}
 use mathlib.Core.Bool.{Bool, true, false}
 use mathlib.Core.List.{List, [], ◌∷◌, ◌++◌}
@@ -8,14 +12,10 @@ use lib.ListN.{length}
 use native.Mathlib.Omega.{arith}
 use Rattle.reads.specs.Pick.{pick}
 use Rattle.reads.specs.Answers.{u8_at, u32_at}
-use Rattle.reads.specs.declared.Read8.{Read8}
-use Rattle.reads.specs.declared.Read8.TheVariants as r8
-use Rattle.reads.specs.declared.Read32.{Read32}
-use Rattle.reads.specs.declared.Read32.TheVariants as r32
 use Rattle.types.specs.declared.InlineFrame.{InlineFrame}
 use Rattle.inline.specs.Tree.{Range}
 use Rattle.inline.specs.Fits.{most_file, any_large}
-use Rattle.inline.specs.Head.{with_line, with_file, with_name, with_kids, tail_at, num_at, ranges_at}
+use Rattle.inline.specs.Head.{with_line, with_file, with_name, with_kids, tail_at, ranges_at}
 use Rattle.inline.specs.Head.{Ranges, all, some, Raw, end, cut, part, late, node, with_tail, with_ranges, with_count}
 use Rattle.inline.specs.Head.{raw_at}
 use Rattle.inline.specs.Judge.{ranges_fit, file_fits, judged_of, seen_of, seen_at}
@@ -24,16 +24,12 @@ use Rattle.inline.specs.Walk.{Out, ended, past, bad, Put, full, put, counted, pu
 use Rattle.inline.specs.Walk.{after_put, after_skip, after_judged, after_seen, then_seen, walk_list, walk_node}
 use Rattle.inline.specs.Block.{Block, listed, refused, root_ctx, block_from, block_of}
 use Rattle.inline.specs.declared.head.Fault.TheVariants as fault
-use Rattle.inline.specs.declared.head.Num.{Num}
-use Rattle.inline.specs.declared.head.Num.TheVariants as num
-use Rattle.inline.specs.declared.head.Tail.{Tail}
-use Rattle.inline.specs.declared.head.Tail.TheVariants as tail
+use Rattle.inline.specs.Tail.{Tail}
+use Rattle.inline.specs.Tail as tail
 use Rattle.inline.specs.declared.judge.Ctx.{Ctx}
 use Rattle.inline.specs.declared.judge.Judged.{Judged}
 use Rattle.inline.specs.declared.judge.Seen.{Seen}
 use Rattle.inline.specs.declared.judge.Seen.TheVariants as seen
-use Rattle.inline.specs.declared.skipping.Passed.{Passed}
-use Rattle.inline.specs.declared.skipping.Passed.TheVariants as passed
 
 -- ---- what is below 2^32
 
@@ -83,25 +79,25 @@ picked P false x y p q = q
 
 -- ---- a head
 
-line-capped : (kids name file : ℕ) (x : Num) → TailCapped (with_line kids name file x)
+line-capped : (kids name file : ℕ) (x : Result (ℕ × ℕ) Cause) → TailCapped (with_line kids name file x)
 unfolding with_line
-line-capped kids name file (num.Value line n) = omega arith
-line-capped kids name file (num.Bad c) = tt
+line-capped kids name file (Ok (line, n)) = omega arith
+line-capped kids name file (Err c) = tt
 
-file-capped : (s : List ℕ) (kids name : ℕ) (x : Num) → TailCapped (with_file s kids name x)
+file-capped : (s : List ℕ) (kids name : ℕ) (x : Result (ℕ × ℕ) Cause) → TailCapped (with_file s kids name x)
 unfolding with_file
-file-capped s kids name (num.Value file n) = line-capped kids name file (num_at s n)
-file-capped s kids name (num.Bad c) = tt
+file-capped s kids name (Ok (file, n)) = line-capped kids name file (unsigned_at s n)
+file-capped s kids name (Err c) = tt
 
-name-capped : (s : List ℕ) (at kids : ℕ) (x : Read32) → TailCapped (with_name s at kids x)
+name-capped : (s : List ℕ) (at kids : ℕ) (x : Option ℕ) → TailCapped (with_name s at kids x)
 unfolding with_name
-name-capped s at kids (r32.Value name) = file-capped s kids name (num_at s (at + 5))
-name-capped s at kids r32.Unread = tt
+name-capped s at kids (Some name) = file-capped s kids name (unsigned_at s (at + 5))
+name-capped s at kids None = tt
 
-kids-capped : (s : List ℕ) (at : ℕ) (x : Read8) → TailCapped (with_kids s at x)
+kids-capped : (s : List ℕ) (at : ℕ) (x : Option ℕ) → TailCapped (with_kids s at x)
 unfolding with_kids
-kids-capped s at (r8.Value kids) = name-capped s at kids (u32_at s (at + 1))
-kids-capped s at r8.Unread = tt
+kids-capped s at (Some kids) = name-capped s at kids (u32_at s (at + 1))
+kids-capped s at None = tt
 
 tail-capped : (s : List ℕ) (at : ℕ) → TailCapped (tail_at s at)
 unfolding tail_at
@@ -109,7 +105,7 @@ tail-capped s at = kids-capped s at (u8_at s at)
 
 raw-capped : (s : List ℕ) (at : ℕ) → RawCapped (raw_at s at)
 unfolding raw_at with_tail with_ranges with_count
-raw-capped s at = by_count (num_at s at)
+raw-capped s at = by_count (unsigned_at s at)
   where
     by-tail : (n : ℕ) (rs : _) (x : Tail) → TailCapped x → RawCapped (with_tail n rs x)
     by-tail n rs (tail.Cut c) l = tt
@@ -120,10 +116,10 @@ raw-capped s at = by_count (num_at s at)
     by-ranges n (all m rs) = by-tail n rs (tail_at s m) (tail-capped s m)
     by-ranges n (some c rs) = tt
 
-    by_count : (x : Num) → RawCapped (with_count s x)
-    by_count (num.Value count n) =
+    by_count : (x : Result (ℕ × ℕ) Cause) → RawCapped (with_count s x)
+    by_count (Ok (count, n)) =
         picked RawCapped (eqb count 0) _ _ tt (by-ranges n (ranges_at count s n))
-    by_count (num.Bad c) = tt
+    by_count (Err c) = tt
 
 -- a fault of ranges or of the call file has no line
 fits : (c : Ctx) (rs : List Range) (x : Seen) → SeenCapped x → SeenCapped (ranges_fit seen.Bad c rs x)
@@ -175,13 +171,13 @@ unfolding after_put
 after-put-capped kids k i full a = tt
 after-put-capped kids k i (put acc) a = picked OutCapped (eqb i.kids 0) _ _ a (k i.next acc a)
 
-after-skip-capped : (acc : List InlineFrame) → Capped acc → (x : Passed) → OutCapped (after_skip acc x)
+after-skip-capped : (acc : List InlineFrame) → Capped acc → (x : Result ℕ Fault) → OutCapped (after_skip acc x)
 unfolding after_skip
-after-skip-capped acc a (passed.At n) = a
-after-skip-capped acc a (passed.Bad f) = tt
+after-skip-capped acc a (Ok n) = a
+after-skip-capped acc a (Err f) = tt
 
 after-seen-capped :
-    (reads : Ctx → ℕ → List InlineFrame → Out) → ((c : Ctx) → Keeps (reads c)) → (skips : ℕ → Passed) (c : Ctx)
+    (reads : Ctx → ℕ → List InlineFrame → Out) → ((c : Ctx) → Keeps (reads c)) → (skips : ℕ → Result ℕ Fault) (c : Ctx)
     (acc : List InlineFrame) → Capped acc → (x : Seen) → SeenCapped x → OutCapped (after_seen reads skips c acc x)
 unfolding after_seen after_judged
 after-seen-capped reads k skips c acc a (seen.End n) l = a

@@ -13,7 +13,6 @@ use Rattle.inline.specs.Block.{
   Block,
   listed,
   refused,
-  node_no,
   fault_no,
   root_ctx,
   block_from,
@@ -26,8 +25,6 @@ use Rattle.inline.specs.Block.{
 use Rattle.inline.specs.Torn.{Read, got, torn, tree_of}
 use Rattle.inline.specs.Said.{Said, fine, wrong, say_forest, say_torn, out_of, say_read}
 use Rattle.inline.specs.Reads.{Reads}
-use Rattle.inline.specs.declared.head.Cause.{Cause}
-use Rattle.inline.specs.declared.head.Cause.TheVariants as cause
 use Rattle.inline.specs.declared.head.Fault.{Fault}
 use Rattle.inline.specs.declared.head.Fault.TheVariants as fault
 use Rattle.inline.specs.declared.Listed.{Listed}
@@ -53,14 +50,9 @@ block-is symbol addr room bytes =
     ∙ ap block_from (node-root (length bytes) bytes (root_ctx symbol addr room) 0 [])
 
 -- a refusal's number is one from 10 to 14
-node-no : (k : Cause) → (10 ≤ node_no k) × (node_no k ≤ 14)
-unfolding node_no
-node-no cause.Short = (omega arith, omega arith)
-node-no cause.Wide = (omega arith, omega arith)
-
 pub fault-no : (f : Fault) → (10 ≤ fault_no f) × (fault_no f ≤ 14)
 unfolding fault_no
-fault-no (fault.Unread k) = node-no k
+fault-no (fault.Unread k) = (omega arith, omega arith)
 fault-no fault.Sum = (omega arith, omega arith)
 fault-no fault.CallFile = (omega arith, omega arith)
 fault-no fault.Level = (omega arith, omega arith)

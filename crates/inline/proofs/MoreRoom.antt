@@ -1,6 +1,8 @@
 -- More room changes nothing but 14: a block that is read with less room either has more frames than that, or gives what
 -- it gives with more.
 -- Assumes nothing.
+use Rattle.std.proofs.Common.{Result}
+use Rattle.inline.specs.declared.head.Fault.{Fault}
 use Prim.Native.Nat.{ℕ, zero, suc, ◌+◌, ◌≤◌}
 use mathlib.Core.Bool.{Bool, true, false}
 use mathlib.Core.List.{List, [], ◌++◌}
@@ -39,7 +41,6 @@ use Rattle.inline.specs.declared.judge.Ctx.{Ctx}
 use Rattle.inline.specs.declared.judge.Judged.{Judged}
 use Rattle.inline.specs.declared.judge.Seen.{Seen}
 use Rattle.inline.specs.declared.judge.Seen.TheVariants as seen
-use Rattle.inline.specs.declared.skipping.Passed.{Passed}
 
 -- no room, or the same
 abbrev Or14 : Out → Out → Type 0
@@ -99,7 +100,7 @@ module _ (room more : ℕ) (l : room ≤ more) where
         subst (λ (x : Out). Or14 (then_seen few x) (then_seen many p)) (sym e) (same_rest p)
 
   -- a judged node, with `reads` for a list of judged nodes
-  module _ (reads : Ctx → ℕ → List InlineFrame → Out) (skips : ℕ → Passed)
+  module _ (reads : Ctx → ℕ → List InlineFrame → Out) (skips : ℕ → Result ℕ Fault)
       (h : (level addr base n : ℕ) (acc : List InlineFrame) →
       Or14 (reads (ctx level addr base room) n acc) (reads (ctx level addr base more) n acc)) where
     seen-room : (level addr base : ℕ) (acc : List InlineFrame) (x : Seen) →

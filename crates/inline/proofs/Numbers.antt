@@ -1,24 +1,19 @@
 -- Numbers at a place: having read one says where reading goes on, and that this is within the bytes.
 -- Assumes nothing.
+use Rattle.std.proofs.Common.{None, Option, Ok, Err, Some, Result}
+use Rattle.leb128.specs.declared.Cause.{Cause}
 use Prim.Native.Nat.{ℕ, ◌+◌, ◌<◌, ◌≤◌}
 use mathlib.Core.Bool.{Bool, true, false}
 use mathlib.Core.List.{List}
-use mathlib.Core.Path.{◌≡◌, refl, subst}
+use mathlib.Core.Path.{◌≡◌, refl, sym, ◌∙◌}
 use lib.ListN.{length}
 use native.Mathlib.Omega.{arith}
+use Rattle.std.specs.Option.{ok_or}
 use Rattle.reads.specs.Pick.{pick}
-use Rattle.reads.specs.Bytes.{Fixed, value, unread, le_at}
-use Rattle.reads.specs.Answers.{as8, as32, u8_at, u32_at}
-use Rattle.reads.specs.declared.Read8.TheVariants as r8
-use Rattle.reads.specs.declared.Read32.TheVariants as r32
+use Rattle.reads.specs.Answers.{u8_at, u32_at}
 use Rattle.reads.proofs.Places.{within}
 use Rattle.leb128.specs.Answers.{unsigned_at}
-use Rattle.leb128.specs.declared.Unsigned.{Unsigned}
-use Rattle.leb128.specs.declared.Unsigned.TheVariants as u
 use Rattle.leb128.proofs.Taken.{unsigned-next}
-use Rattle.inline.specs.Head.{num_of, num_at}
-use Rattle.inline.specs.declared.head.Num.{Num}
-use Rattle.inline.specs.declared.head.Num.TheVariants as num
 
 -- what an equation between two constructors gives
 pub never : {A : Type 0} → ◌≡◌ {A = ℕ} 0 1 → A
@@ -35,38 +30,36 @@ pub pick-has :
 pick-has P true x y l r = l refl
 pick-has P false x y l r = r refl
 
+-- a value that is not there, as a refusal
+pub none_or :
+    {A E : Type 0} (o : Option A) (e : E) (r : Result A E) → r ≡ ok_or o e →
+    (x : E) → r ≡ Err x → (o ≡ None) × (x ≡ e)
+none_or None e r q x p = (refl, let z : Err x ≡ Err e = sym p ∙ q in cc)
+none_or (Some v) e r q x p = let z : Err x ≡ Ok v = sym p ∙ q in never (cc)
+
 -- reading goes on, and stays within the bytes
-abbrev pub NumGoes : ℕ → ℕ → Num → Type 0
-NumGoes at len (num.Value v n) = (at < n) × (n ≤ len)
-NumGoes at len (num.Bad c) = Unit {0}
+abbrev pub NumGoes : ℕ → ℕ → Result (ℕ × ℕ) Cause → Type 0
+NumGoes at len (Ok (v, n)) = (at < n) × (n ≤ len)
+NumGoes at len (Err c) = Unit {0}
 
 module _ (s : List ℕ) (at : ℕ) where
-  pub num-goes : NumGoes at (length s) (num_at s at)
-  unfolding num_at
+  pub num-goes : NumGoes at (length s) (unsigned_at s at)
   num-goes = go (unsigned_at s at) refl
     where
-      go : (x : Unsigned) → unsigned_at s at ≡ x → NumGoes at (length s) (num_of x)
-      go (u.Value v n) e = unsigned-next s at v n e
-      go u.Short e = tt
-      go u.Wide e = tt
+      go : (x : Result (ℕ × ℕ) Cause) → unsigned_at s at ≡ x → NumGoes at (length s) x
+      go (Ok (v, n)) e = unsigned-next s at v n e
+      go (Err c) e = tt
 
-  pub num-next : (a : Num) → a ≡ num_at s at → (v n : ℕ) → a ≡ num.Value v n → (at < n) × (n ≤ length s)
-  num-next a A v n p = subst (NumGoes at (length s)) (let q : num_at s at ≡ num.Value v n = cc in q) num-goes
+  pub num-next :
+      (a : Result (ℕ × ℕ) Cause) → a ≡ unsigned_at s at → (v n : ℕ) → a ≡ Ok (v, n) → (at < n) × (n ≤ length s)
+  num-next a A v n p = unsigned-next s at v n (sym A ∙ p)
 
   -- a byte that was read is one of the bytes
-  pub byte-within : (v : ℕ) → u8_at s at ≡ r8.Value v → at + 1 ≤ length s
+  pub byte-within : (v : ℕ) → u8_at s at ≡ Some v → at + 1 ≤ length s
   unfolding u8_at
-  byte-within v e = go (le_at 1 s at) refl e
-    where
-      go : (x : Fixed) → le_at 1 s at ≡ x → as8 x ≡ r8.Value v → at + 1 ≤ length s
-      go (value w) p q = within s at 1 w (omega arith) p
-      go unread p q = never (cc)
+  byte-within v e = within s at 1 v (omega arith) e
 
   -- and so are four bytes
-  pub word-within : (v : ℕ) → u32_at s at ≡ r32.Value v → at + 4 ≤ length s
+  pub word-within : (v : ℕ) → u32_at s at ≡ Some v → at + 4 ≤ length s
   unfolding u32_at
-  word-within v e = go (le_at 4 s at) refl e
-    where
-      go : (x : Fixed) → le_at 4 s at ≡ x → as32 x ≡ r32.Value v → at + 4 ≤ length s
-      go (value w) p q = within s at 4 w (omega arith) p
-      go unread p q = never (cc)
+  word-within v e = within s at 4 v (omega arith) e

@@ -1,5 +1,6 @@
 -- Passing over bytes is passing over the tree that they hold.
 -- Assumes nothing.
+use Rattle.std.proofs.Common.{Ok, Err, Result}
 use Prim.Native.Nat.{ℕ, zero, suc, ◌+◌}
 use mathlib.Core.List.{List}
 use mathlib.Core.Bool.{Bool, true, false}
@@ -15,27 +16,25 @@ use Rattle.inline.specs.declared.head.Fault.{Fault}
 use Rattle.inline.specs.declared.head.Fault.TheVariants as fault
 use Rattle.inline.specs.declared.head.Head.TheVariants as head
 use Rattle.inline.specs.declared.skipping.Step.TheVariants as step
-use Rattle.inline.specs.declared.skipping.Passed.{Passed}
-use Rattle.inline.specs.declared.skipping.Passed.TheVariants as passed
 use Rattle.inline.proofs.Numbers.{pick-ap}
 
 -- what a list of nodes that was read comes to where it is passed over
-unfoldable pub passed_of : ℕ → Read → Passed
-passed_of level (got n t) = pick (deep_in level t) (passed.Bad fault.Level) (passed.At n)
-passed_of level (torn t) = passed.Bad (fault_of level t)
+unfoldable pub passed_of : ℕ → Read → Result ℕ Fault
+passed_of level (got n t) = pick (deep_in level t) (Err fault.Level) (Ok n)
+passed_of level (torn t) = Err (fault_of level t)
 
 -- ---- a node on level 65
 
 deep-rest :
     (level : ℕ) → ltb 64 level ≡ true → (self : Node) (t : Forest) (R : Read) →
-    passed_of level (with_rest self t R) ≡ passed.Bad fault.Level
+    passed_of level (with_rest self t R) ≡ Err fault.Level
 unfolding passed_of with_rest deep_in fault_of
 deep-rest level p self t (got n r) = rw p
 deep-rest level p self t (torn r) = rw p
 
 deep-node :
     (level : ℕ) → ltb 64 level ≡ true → (go : ℕ → Read) (self : Node) (K : Read) →
-    passed_of level (with_list go self K) ≡ passed.Bad fault.Level
+    passed_of level (with_list go self K) ≡ Err fault.Level
 unfolding with_list passed_of fault_of
 deep-node level p go self (got n t) = deep-rest level p self t (go n)
 deep-node level p go self (torn t) = rw p
@@ -45,7 +44,7 @@ deep-node level p go self (torn t) = rw p
 module _ (level : ℕ) (p : ltb 64 level ≡ false) (self : Node) where
   kids-deep :
       (t : Forest) → deep_in (level + 1) t ≡ true → (R : Read) →
-      passed_of level (with_rest self t R) ≡ passed.Bad fault.Level
+      passed_of level (with_rest self t R) ≡ Err fault.Level
   unfolding passed_of with_rest deep_in fault_of
   kids-deep t q (got n r) = rw (p, q)
   kids-deep t q (torn r) = rw (p, q)
@@ -57,14 +56,14 @@ module _ (level : ℕ) (p : ltb 64 level ≡ false) (self : Node) where
   kids-fit t q (torn r) = rw (p, q)
 
   kids-step :
-      (next : ℕ → Passed) (go : ℕ → Read) → ((n : ℕ) → next n ≡ passed_of level (go n)) → (K : Read) →
+      (next : ℕ → Result ℕ Fault) (go : ℕ → Read) → ((n : ℕ) → next n ≡ passed_of level (go n)) → (K : Read) →
       then_skip next (over_kids (passed_of (level + 1) K)) ≡ passed_of level (with_list go self K)
   unfolding passed_of with_list then_skip fault_of
   kids-step next go ih (got n t) = by-deep (deep_in (level + 1) t) refl
     where
       by-deep :
           (d : Bool) → deep_in (level + 1) t ≡ d →
-          then_skip next (over_kids (pick d (passed.Bad fault.Level) (passed.At n)))
+          then_skip next (over_kids (pick d (Err fault.Level) (Ok n)))
           ≡ passed_of level (with_rest self t (go n))
       by-deep true q = sym (kids-deep t q (go n))
       by-deep false q = ih n ∙ sym (kids-fit t q (go n))
@@ -73,8 +72,8 @@ module _ (level : ℕ) (p : ltb 64 level ≡ false) (self : Node) where
 -- ---- from what stands at a place
 
 part_step :
-    (next kids : ℕ → Passed) (d : Bool) (f : Fault) →
-    then_skip next (after_head kids (pick d (head.Bad fault.Level) (head.Bad f))) ≡ passed.Bad (pick d fault.Level f)
+    (next kids : ℕ → Result ℕ Fault) (d : Bool) (f : Fault) →
+    then_skip next (after_head kids (pick d (head.Bad fault.Level) (head.Bad f))) ≡ Err (pick d fault.Level f)
 unfolding then_skip after_head
 part_step next kids true f = refl
 part_step next kids false f = refl
@@ -102,7 +101,7 @@ module _ (f : ℕ) (s : List ℕ) (level : ℕ)
           ≡ passed_of level (with_list (read_list f s) w.self K)
       by_level true p = sym (deep-node level p (read_list f s) w.self K)
       by_level false p =
-          ap (λ (x : Passed). then_skip (skip_list f s level) (pick (eqb w.kids 0) (step.Past w.next) (over_kids x)))
+          ap (λ (x : Result ℕ Fault). then_skip (skip_list f s level) (pick (eqb w.kids 0) (step.Past w.next) (over_kids x)))
           (ih (level + 1) w.next)
           ∙ ap (then_skip (skip_list f s level))
           (sym (pick-ap (λ (x : Read). over_kids (passed_of (level + 1) x)) (eqb w.kids 0) (got w.next none)

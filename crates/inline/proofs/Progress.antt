@@ -1,5 +1,8 @@
 -- Where reading goes on after a head: further on, within the bytes; and a node stands on one of 64 levels.
 -- Assumes nothing.
+use Rattle.std.proofs.Common.{Ok, Err, Some, None, Option, Result}
+use Rattle.leb128.specs.Answers.{unsigned_at}
+use Rattle.leb128.specs.declared.Cause.{Cause}
 use Prim.Native.Nat.{ℕ, ◌+◌, ◌<◌, ◌≤◌}
 use mathlib.Core.List.{List}
 use mathlib.Core.Path.{◌≡◌, sym, subst}
@@ -8,13 +11,8 @@ use lib.ListN.{length}
 use native.Mathlib.Omega.{arith}
 use borrow.Author.Tests.{ltb-false}
 use Rattle.reads.specs.Answers.{u8_at, u32_at}
-use Rattle.reads.specs.declared.Read8.{Read8}
-use Rattle.reads.specs.declared.Read8.TheVariants as r8
-use Rattle.reads.specs.declared.Read32.{Read32}
-use Rattle.reads.specs.declared.Read32.TheVariants as r32
 use Rattle.inline.specs.Tree.{Range}
 use Rattle.inline.specs.Head.{
-  num_at,
   Ranges,
   all,
   some,
@@ -41,10 +39,8 @@ use Rattle.inline.specs.Head.{
 use Rattle.inline.specs.Fits.{any_large}
 use Rattle.inline.specs.Judge.{ranges_fit, file_fits, judged_of, seen_of, seen_at}
 use Rattle.inline.specs.declared.head.Fault.TheVariants as fault
-use Rattle.inline.specs.declared.head.Num.{Num}
-use Rattle.inline.specs.declared.head.Num.TheVariants as num
-use Rattle.inline.specs.declared.head.Tail.{Tail}
-use Rattle.inline.specs.declared.head.Tail.TheVariants as tail
+use Rattle.inline.specs.Tail.{Tail}
+use Rattle.inline.specs.Tail as tail
 use Rattle.inline.specs.declared.head.NodeHead.{NodeHead}
 use Rattle.inline.specs.declared.head.Head.{Head}
 use Rattle.inline.specs.declared.head.Head.TheVariants as head
@@ -63,29 +59,29 @@ TailGoes at len (tail.Late file k) = Unit {0}
 TailGoes at len (tail.Whole t) = (at < t.next) × (t.next ≤ len)
 
 line-goes :
-    (at m len kids name file : ℕ) (r : Num) → at ≤ m → NumGoes m len r → TailGoes at len (with_line kids name file r)
+    (at m len kids name file : ℕ) (r : Result (ℕ × ℕ) Cause) → at ≤ m → NumGoes m len r → TailGoes at len (with_line kids name file r)
 unfolding with_line
-line-goes at m len kids name file (num.Value v n) le g = (omega (arith, g.0), g.1)
-line-goes at m len kids name file (num.Bad k) le g = tt
+line-goes at m len kids name file (Ok (v, n)) le g = (omega (arith, g.0), g.1)
+line-goes at m len kids name file (Err k) le g = tt
 
 file-goes :
-    (s : List ℕ) (at m kids name : ℕ) (r : Num) → at ≤ m → NumGoes m (length s) r →
+    (s : List ℕ) (at m kids name : ℕ) (r : Result (ℕ × ℕ) Cause) → at ≤ m → NumGoes m (length s) r →
     TailGoes at (length s) (with_file s kids name r)
 unfolding with_file
-file-goes s at m kids name (num.Value v n) le g =
-    line-goes at n (length s) kids name v (num_at s n) (omega (arith, g.0)) (num-goes s n)
-file-goes s at m kids name (num.Bad k) le g = tt
+file-goes s at m kids name (Ok (v, n)) le g =
+    line-goes at n (length s) kids name v (unsigned_at s n) (omega (arith, g.0)) (num-goes s n)
+file-goes s at m kids name (Err k) le g = tt
 
-name-goes : (s : List ℕ) (at kids : ℕ) (r : Read32) → TailGoes at (length s) (with_name s at kids r)
+name-goes : (s : List ℕ) (at kids : ℕ) (r : Option ℕ) → TailGoes at (length s) (with_name s at kids r)
 unfolding with_name
-name-goes s at kids (r32.Value name) =
-    file-goes s at (at + 5) kids name (num_at s (at + 5)) (omega arith) (num-goes s (at + 5))
-name-goes s at kids r32.Unread = tt
+name-goes s at kids (Some name) =
+    file-goes s at (at + 5) kids name (unsigned_at s (at + 5)) (omega arith) (num-goes s (at + 5))
+name-goes s at kids None = tt
 
-kids-goes : (s : List ℕ) (at : ℕ) (r : Read8) → TailGoes at (length s) (with_kids s at r)
+kids-goes : (s : List ℕ) (at : ℕ) (r : Option ℕ) → TailGoes at (length s) (with_kids s at r)
 unfolding with_kids
-kids-goes s at (r8.Value kids) = name-goes s at kids (u32_at s (at + 1))
-kids-goes s at r8.Unread = tt
+kids-goes s at (Some kids) = name-goes s at kids (u32_at s (at + 1))
+kids-goes s at None = tt
 
 tail-goes : (s : List ℕ) (at : ℕ) → TailGoes at (length s) (tail_at s at)
 unfolding tail_at
@@ -116,17 +112,17 @@ with-ranges-goes s at m first (all n rs) le g =
     with-tail-goes at n (length s) first rs (tail_at s n) (omega (arith, g.0)) (tail-goes s n)
 with-ranges-goes s at m first (some k rs) le g = tt
 
-count-goes : (s : List ℕ) (at : ℕ) (r : Num) → NumGoes at (length s) r → RawGoes at (length s) (with_count s r)
+count-goes : (s : List ℕ) (at : ℕ) (r : Result (ℕ × ℕ) Cause) → NumGoes at (length s) r → RawGoes at (length s) (with_count s r)
 unfolding with_count
-count-goes s at (num.Value count n) g =
+count-goes s at (Ok (count, n)) g =
     pick-has (RawGoes at (length s)) (eqb count 0) (end n) (with_ranges s n (ranges_at count s n))
     (λ _. g)
     (λ _. with-ranges-goes s at n n (ranges_at count s n) (omega (arith, g.0)) (ranges-goes count s n g.1))
-count-goes s at (num.Bad k) g = tt
+count-goes s at (Err k) g = tt
 
 pub raw-goes : (s : List ℕ) (at : ℕ) → RawGoes at (length s) (raw_at s at)
 unfolding raw_at
-raw-goes s at = count-goes s at (num_at s at) (num-goes s at)
+raw-goes s at = count-goes s at (unsigned_at s at) (num-goes s at)
 
 -- ---- a head as `head_at` answers it
 

@@ -1,14 +1,14 @@
 -- Ranges at a place: one, then all of them, passed over; and where reading goes on after them.
 -- Assumes nothing.
-use Prim.Native.Nat.{ℕ, zero, suc, ◌-◌, ◌<◌, ◌≤◌}
+use Rattle.std.proofs.Common.{Ok, Err, Result}
+use Rattle.leb128.specs.Answers.{unsigned_at}
+use Prim.Native.Nat.{ℕ, zero, suc, ◌<◌, ◌≤◌}
 use mathlib.Core.List.{List}
 use mathlib.Core.Path.{◌≡◌, refl, sym, ap, ◌∙◌}
 use lib.ListN.{length}
-use native.Mathlib.Numerals.{sub-one}
 use native.Mathlib.Omega.{arith}
 use Rattle.inline.specs.Tree.{Range}
 use Rattle.inline.specs.Head.{
-  num_at,
   One,
   one,
   unread,
@@ -23,33 +23,30 @@ use Rattle.inline.specs.Head.{
   ranges_at,
   place_of,
 }
-use Rattle.inline.specs.declared.head.Cause.{Cause}
-use Rattle.inline.specs.declared.head.Num.{Num}
-use Rattle.inline.specs.declared.head.Num.TheVariants as num
-use Rattle.inline.specs.declared.head.Place.TheVariants as place
+use Rattle.leb128.specs.declared.Cause.{Cause}
 use Rattle.inline.proofs.Numbers.{NumGoes, num-goes, num-next}
 
 -- ---- one range: its offset, and then its size
 
-module _ (s : List ℕ) (at : ℕ) (a : Num) (A : a ≡ num_at s at) where
-  pub no-off : (c : Cause) → a ≡ num.Bad c → range_at s at ≡ unread c
+module _ (s : List ℕ) (at : ℕ) (a : Result (ℕ × ℕ) Cause) (A : a ≡ unsigned_at s at) where
+  pub no-off : (c : Cause) → a ≡ Err c → range_at s at ≡ unread c
   unfolding range_at with_off
   no-off c p = ap (with_off s) (sym A ∙ p)
 
-  module _ (off m : ℕ) (p : a ≡ num.Value off m) (b : Num) (B : b ≡ num_at s m) where
+  module _ (off m : ℕ) (p : a ≡ Ok (off, m)) (b : Result (ℕ × ℕ) Cause) (B : b ≡ unsigned_at s m) where
     with-off : range_at s at ≡ with_size off b
     unfolding range_at with_off
     with-off = ap (with_off s) (sym A ∙ p) ∙ ap (with_size off) (sym B)
 
-    pub no_size : (c : Cause) → b ≡ num.Bad c → range_at s at ≡ unread c
+    pub no_size : (c : Cause) → b ≡ Err c → range_at s at ≡ unread c
     unfolding with_size
     no_size c q = with-off ∙ ap (with_size off) q
 
-    pub one-is : (size n : ℕ) → b ≡ num.Value size n → range_at s at ≡ one (record { off = off; size = size }) n
+    pub one-is : (size n : ℕ) → b ≡ Ok (size, n) → range_at s at ≡ one (record { off = off; size = size }) n
     unfolding with_size
     one-is size n q = with-off ∙ ap (with_size off) q
 
-    pub one-next : (size n : ℕ) → b ≡ num.Value size n → (at < n) × (n ≤ length s)
+    pub one-next : (size n : ℕ) → b ≡ Ok (size, n) → (at < n) × (n ≤ length s)
     one-next size n q =
         let g = num-next s at a A off m p in
         let h = num-next s m b B size n q in
@@ -65,19 +62,19 @@ abbrev pub RangesGoes : ℕ → ℕ → Ranges → Type 0
 RangesGoes at len (all n rs) = (at ≤ n) × (n ≤ len)
 RangesGoes at len (some c rs) = Unit {0}
 
-size-goes : (at m len off : ℕ) (r : Num) → at ≤ m → NumGoes m len r → OneGoes at len (with_size off r)
+size-goes : (at m len off : ℕ) (r : Result (ℕ × ℕ) Cause) → at ≤ m → NumGoes m len r → OneGoes at len (with_size off r)
 unfolding with_size
-size-goes at m len off (num.Value v n) le g = (omega (arith, g.0), g.1)
-size-goes at m len off (num.Bad c) le g = tt
+size-goes at m len off (Ok (v, n)) le g = (omega (arith, g.0), g.1)
+size-goes at m len off (Err c) le g = tt
 
-off-goes : (s : List ℕ) (at : ℕ) (r : Num) → NumGoes at (length s) r → OneGoes at (length s) (with_off s r)
+off-goes : (s : List ℕ) (at : ℕ) (r : Result (ℕ × ℕ) Cause) → NumGoes at (length s) r → OneGoes at (length s) (with_off s r)
 unfolding with_off
-off-goes s at (num.Value v n) g = size-goes at n (length s) v (num_at s n) (omega (arith, g.0)) (num-goes s n)
-off-goes s at (num.Bad c) g = tt
+off-goes s at (Ok (v, n)) g = size-goes at n (length s) v (unsigned_at s n) (omega (arith, g.0)) (num-goes s n)
+off-goes s at (Err c) g = tt
 
 pub range-goes : (s : List ℕ) (at : ℕ) → OneGoes at (length s) (range_at s at)
 unfolding range_at
-range-goes s at = off-goes s at (num_at s at) (num-goes s at)
+range-goes s at = off-goes s at (unsigned_at s at) (num-goes s at)
 
 and-goes :
     (at m len : ℕ) (r : Range) (G : Ranges) → at ≤ m → RangesGoes m len G → RangesGoes at len (and_range r G)
@@ -104,27 +101,26 @@ unfolding place_of and_range
 place-and r (all n rs) = refl
 place-and r (some c rs) = refl
 
-pub place_none : (s : List ℕ) (left to : ℕ) → left ≡ 0 → place.At to ≡ place_of (ranges_at left s to)
+pub place_none : (s : List ℕ) (left to : ℕ) → left ≡ 0 → Ok to ≡ place_of (ranges_at left s to)
 unfolding ranges_at place_of
 place_none s zero to z = refl
 place_none s (suc k) to z = absurd (omega arith)
 
 pub place-bad :
     (s : List ℕ) (left to : ℕ) → 0 < left → (c : Cause) → range_at s to ≡ unread c →
-    place.Bad c ≡ place_of (ranges_at left s to)
+    Err c ≡ place_of (ranges_at left s to)
 unfolding ranges_at place_of then_range
 place-bad s zero to l c e = absurd (omega arith)
 place-bad s (suc k) to l c e = sym (ap (λ (O : One). place_of (then_range (ranges_at k s) O)) e)
 
 pub place-one :
-    (s : List ℕ) (left to : ℕ) → 0 < left → (r : Range) (n : ℕ) → range_at s to ≡ one r n →
-    place_of (ranges_at left s to) ≡ place_of (ranges_at (left - 1) s n)
+    (s : List ℕ) (left rest to : ℕ) → left ≡ suc rest → (r : Range) (n : ℕ) → range_at s to ≡ one r n →
+    place_of (ranges_at left s to) ≡ place_of (ranges_at rest s n)
 unfolding ranges_at then_range
-place-one s zero to l r n e = absurd (omega arith)
-place-one s (suc k) to l r n e =
-    ap (λ (O : One). place_of (then_range (ranges_at k s) O)) e
-    ∙ place-and r (ranges_at k s n)
-    ∙ ap (λ (j : ℕ). place_of (ranges_at j s n)) (sym (sub-one (suc k)))
+place-one s left rest to l r n e =
+    ap (λ (j : ℕ). place_of (ranges_at j s to)) l
+    ∙ ap (λ (O : One). place_of (then_range (ranges_at rest s) O)) e
+    ∙ place-and r (ranges_at rest s n)
 
 -- ---- as many as the count says
 

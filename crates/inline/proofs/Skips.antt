@@ -1,5 +1,6 @@
 -- One node passed over, from its head; and what is left of a list that is passed over.
 -- Assumes nothing.
+use Rattle.std.proofs.Common.{Ok, Err, Result}
 use Prim.Native.Nat.{ℕ, zero, suc, ◌+◌, ◌-◌, ◌<◌, ◌≤◌}
 use mathlib.Core.List.{List}
 use mathlib.Core.Bool.{Bool}
@@ -17,21 +18,19 @@ use Rattle.inline.specs.declared.head.Head.{Head}
 use Rattle.inline.specs.declared.head.Head.TheVariants as head
 use Rattle.inline.specs.declared.skipping.Step.{Step}
 use Rattle.inline.specs.declared.skipping.Step.TheVariants as step
-use Rattle.inline.specs.declared.skipping.Passed.{Passed}
-use Rattle.inline.specs.declared.skipping.Passed.TheVariants as passed
 use Rattle.inline.proofs.Progress.{head-end-next, head-next}
 
 -- ---- one node
 
 -- `ans` is what the list from `to` on comes to, with fuel enough for the bytes left
-pub record Left (s : List ℕ) (level to : ℕ) (ans : Passed) : Type 0 where
+pub record Left (s : List ℕ) (level to : ℕ) (ans : Result ℕ Fault) : Type 0 where
   pub fuel : ℕ
   pub enough : length s - to < fuel
   pub same : ans ≡ skip_list fuel s level to
 
 -- the node's answer is past a list that is passed
 pub record Below (s : List ℕ) (level to : ℕ) (ans : Step) : Type 0 where
-  pub list : Passed
+  pub list : Result ℕ Fault
   pub left : Left s level to list
   pub over : ans ≡ over_kids list
 
@@ -91,18 +90,18 @@ module _ (s : List ℕ) (level at : ℕ) (h : Head) (H : h ≡ head_at s level a
 
 module _ (s : List ℕ) (level to : ℕ) (r : Step) (S : Skipped s level to r) where
   -- the answer of a list from its first node
-  one : (ans : Passed) (g : ℕ) → length s - to < suc g → ans ≡ skip_list (suc g) s level to →
+  one : (ans : Result ℕ Fault) (g : ℕ) → length s - to < suc g → ans ≡ skip_list (suc g) s level to →
       ans ≡ then_skip (skip_list g s level) r
   unfolding skip_list skip_node
   one ans g lt e = e ∙ ap (then_skip (skip_list g s level)) (sym (S.says g (omega arith)))
 
   onward :
-      (ans : Passed) (f : ℕ) → length s - to < f → ans ≡ skip_list f s level to →
+      (ans : Result ℕ Fault) (f : ℕ) → length s - to < f → ans ≡ skip_list f s level to →
       (g : ℕ) × (length s - to ≤ g) × (ans ≡ then_skip (skip_list g s level) r)
   onward ans zero lt e = absurd (omega arith)
   onward ans (suc g) lt e = (g, omega arith, one ans g lt e)
 
-  module _ (ans : Passed) (L : Left s level to ans) where
+  module _ (ans : Result ℕ Fault) (L : Left s level to ans) where
     pub left-past : (n : ℕ) → r ≡ step.Past n → Left s level n ans
     unfolding then_skip
     left-past n p =
@@ -114,13 +113,13 @@ module _ (s : List ℕ) (level to : ℕ) (r : Step) (S : Skipped s level to r) w
           same = o.2 ∙ ap (then_skip (skip_list o.0 s level)) p;
         }
 
-    pub left_end : (n : ℕ) → r ≡ step.End n → passed.At n ≡ ans
+    pub left_end : (n : ℕ) → r ≡ step.End n → Ok n ≡ ans
     unfolding then_skip
     left_end n p =
         let o = onward ans L.fuel L.enough L.same in
         sym (o.2 ∙ ap (then_skip (skip_list o.0 s level)) p)
 
-    pub left-bad : (f : Fault) → r ≡ step.Bad f → passed.Bad f ≡ ans
+    pub left-bad : (f : Fault) → r ≡ step.Bad f → Err f ≡ ans
     unfolding then_skip
     left-bad f p =
         let o = onward ans L.fuel L.enough L.same in

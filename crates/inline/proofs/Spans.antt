@@ -1,67 +1,80 @@
 -- Ranges judged at an address: one, and then all of them in one pass that keeps the first start.
 -- Assumes nothing.
-use Prim.Native.Nat.{ℕ, zero, suc, ◌+◌, ◌-◌, ◌<◌, ◌≤◌}
+use Rattle.std.specs.Option.{SomeIff}
+use Rattle.std.proofs.lemmas.Bool.{cases_lt}
+use Rattle.std.proofs.Common.{Some, None, Option, ⊎_elim, Ok, Err}
+use Prim.Native.Nat.{ℕ, zero, suc, ◌+◌, ◌<◌, ◌≤◌}
 use mathlib.Core.List.{List, [], ◌∷◌}
 use mathlib.Core.Bool.{Bool, true, false}
 use mathlib.Core.Path.{◌≡◌, refl, sym, ap, subst, ◌∙◌}
-use lib.Dec.{ltb, leb, eqb}
+use lib.Dec.{ltb, leb}
 use lib.ListN.{length}
-use native.Mathlib.Numerals.{sub-one}
 use native.Mathlib.Omega.{arith}
-use borrow.Author.Tests.{lt-ltb, le-ltb, eq-eqb, ne_eqb}
+use borrow.Author.Tests.{lt-ltb, le-ltb}
 use Rattle.reads.specs.Pick.{pick}
 use Rattle.inline.specs.Tree.{Range}
 use Rattle.inline.specs.Frames.{in_range, any_in, first_off}
 use Rattle.inline.specs.Head.{One, one, unread, range_at, Ranges, all, some, and_range, then_range, ranges_at}
 use Rattle.inline.specs.Fits.{most_address, too_large, any_large}
-use Rattle.inline.specs.Judge.{span_of, spans_of}
-use Rattle.inline.specs.declared.head.Cause.{Cause}
+use Rattle.inline.specs.Judge.{Span, span_of, spans_of}
+use Rattle.leb128.specs.declared.Cause.{Cause}
 use Rattle.inline.specs.declared.head.Fault.{Fault}
 use Rattle.inline.specs.declared.head.Fault.TheVariants as fault
 use Rattle.inline.specs.declared.judge.Ctx.{Ctx}
-use Rattle.inline.specs.declared.judge.Span.{Span}
-use Rattle.inline.specs.declared.judge.Span.TheVariants as span
 use Rattle.inline.proofs.Numbers.{pick-ap, pick-has}
 use Rattle.inline.proofs.Ranges.{OneGoes, range-goes}
 
 -- ---- one range
 
+-- a checked sum of two addresses
+module _ (r : Option ℕ) (a b : ℕ) (R : SomeIff r (a + b < 18446744073709551616) (a + b)) where
+  pub sum-too_large : r ≡ None → most_address < a + b
+  sum-too_large p =
+      let h = subst (λ o. SomeIff o (a + b < 18446744073709551616) (a + b)) p R in
+      ⊎_elim (λ (l : a + b < 18446744073709551616). absurd (h l)) (λ (l : 18446744073709551616 ≤ a + b). omega arith)
+      (cases_lt (a + b) 18446744073709551616)
+
+  pub sum-fits : (v : ℕ) → r ≡ Some v → (a + b ≤ most_address) × (v ≡ a + b)
+  sum-fits v p =
+      let h = subst (λ o. SomeIff o (a + b < 18446744073709551616) (a + b)) p R in
+      (omega (arith, h.0), h.1)
+
 module _ (s : List ℕ) (c : Ctx) (at : ℕ) where
-  pub span_none : (k : Cause) → range_at s at ≡ unread k → span.Bad (fault.Unread k) ≡ span_of c (range_at s at)
+  pub span_none : (k : Cause) → range_at s at ≡ unread k → Err (fault.Unread k) ≡ span_of c (range_at s at)
   unfolding span_of
   span_none k e = ap (span_of c) (sym e)
 
   module _ (off size n : ℕ) (e : range_at s at ≡ one (record { off = off; size = size }) n) where
-    pub span-start : most_address < c.base + off → span.Bad fault.Sum ≡ span_of c (range_at s at)
+    pub span-start : most_address < c.base + off → Err fault.Sum ≡ span_of c (range_at s at)
     unfolding span_of too_large
     span-start h = rw (e, lt-ltb most_address (c.base + off) h)
 
     pub span-end :
-        c.base + off ≤ most_address → most_address < c.base + off + size → span.Bad fault.Sum ≡ span_of c (range_at s at)
+        c.base + off ≤ most_address → most_address < c.base + off + size → Err fault.Sum ≡ span_of c (range_at s at)
     unfolding span_of too_large
     span-end h k = rw (e, le-ltb most_address (c.base + off) h, lt-ltb most_address (c.base + off + size) k)
 
     pub span-at :
         (t : Bool) → c.base + off ≤ most_address → c.base + off + size ≤ most_address →
         t ≡ pick (leb (c.base + off) c.addr) (ltb c.addr (c.base + off + size)) false →
-        span.At n (c.base + off) t ≡ span_of c (range_at s at)
+        Ok (n, c.base + off, t) ≡ span_of c (range_at s at)
     unfolding span_of too_large in_range
     span-at t h k w = rw (w, e, le-ltb most_address (c.base + off) h, le-ltb most_address (c.base + off + size) k)
 
 -- where reading goes on
 SpanGoes : ℕ → ℕ → Span → Type 0
-SpanGoes at len (span.At n start inside) = (at < n) × (n ≤ len)
-SpanGoes at len (span.Bad f) = Unit {0}
+SpanGoes at len (Ok (n, start, inside)) = (at < n) × (n ≤ len)
+SpanGoes at len (Err f) = Unit {0}
 
 span-goes : (c : Ctx) (at len : ℕ) (O : One) → OneGoes at len O → SpanGoes at len (span_of c O)
 unfolding span_of SpanGoes
 span-goes c at len (one r n) g =
-    pick-has (SpanGoes at len) (too_large c.base r) (span.Bad fault.Sum) _ (λ _. tt) (λ _. g)
+    pick-has (SpanGoes at len) (too_large c.base r) (Err fault.Sum) _ (λ _. tt) (λ _. g)
 span-goes c at len (unread k) g = tt
 
 pub span-next :
     (s : List ℕ) (c : Ctx) (at : ℕ) (r : Span) → r ≡ span_of c (range_at s at) →
-    (n start : ℕ) (inside : Bool) → r ≡ span.At n start inside → (at < n) × (n ≤ length s)
+    (n start : ℕ) (inside : Bool) → r ≡ Ok (n, start, inside) → (at < n) × (n ≤ length s)
 unfolding SpanGoes
 span-next s c at r R n start inside p =
     subst (SpanGoes at (length s)) (sym R ∙ p) (span-goes c at (length s) (range_at s at) (range-goes s at))
@@ -75,10 +88,10 @@ first_from fresh first base (r ∷ rs) = pick fresh (base + r.off) first
 
 pub spans_from : Ctx → Bool → ℕ → Bool → Ranges → Span
 spans_from c fresh first held (all n rs) =
-    pick (any_large c.base rs) (span.Bad fault.Sum)
-    (span.At n (first_from fresh first c.base rs) (pick held true (any_in c.addr c.base rs)))
+    pick (any_large c.base rs) (Err fault.Sum)
+    (Ok (n, first_from fresh first c.base rs, pick held true (any_in c.addr c.base rs)))
 spans_from c fresh first held (some k rs) =
-    pick (any_large c.base rs) (span.Bad fault.Sum) (span.Bad (fault.Unread k))
+    pick (any_large c.base rs) (Err fault.Sum) (Err (fault.Unread k))
 
 first-start : (base : ℕ) (rs : List Range) → first_from true base base rs ≡ base + first_off rs
 unfolding first_from first_off
@@ -90,21 +103,17 @@ unfolding first_from
 first-later first base [] = refl
 first-later first base (r ∷ rs) = refl
 
-none_read : (c : Ctx) (G : Ranges) → spans_of c G ≡ spans_from c true c.base false G
-unfolding spans_of spans_from
-none_read c (all n rs) = rw (first-start c.base rs)
-none_read c (some k rs) = refl
-
 -- before the first turn
-pub spans-start : (c : Ctx) (count : ℕ) (G : Ranges) → spans_of c G ≡ spans_from c (eqb count count) c.base false G
-spans-start c count G =
-    none_read c G ∙ ap (λ (t : Bool). spans_from c t c.base false G) (sym (eq-eqb count count refl))
+pub spans-start : (c : Ctx) (G : Ranges) → spans_of c G ≡ spans_from c true c.base false G
+unfolding spans_of spans_from
+spans-start c (all n rs) = rw (first-start c.base rs)
+spans-start c (some k rs) = refl
 
 -- one range more in front
 and-range :
     (c : Ctx) (fresh : Bool) (first : ℕ) (held : Bool) (r : Range) (G : Ranges) →
     spans_from c fresh first held (and_range r G)
-    ≡ pick (too_large c.base r) (span.Bad fault.Sum)
+    ≡ pick (too_large c.base r) (Err fault.Sum)
     (spans_from c false (pick fresh (c.base + r.off) first) (pick held true (in_range c.addr c.base r)) G)
 unfolding spans_from and_range any_large any_in first_from
 and-range c fresh first held r (all n rs) = rw first-later (go (too_large c.base r) held)
@@ -114,10 +123,10 @@ and-range c fresh first held r (all n rs) = rw first-later (go (too_large c.base
 
     go :
         (t held : Bool) →
-        pick (pick t true (any_large c.base rs)) (span.Bad fault.Sum)
-        (span.At n f (pick held true (pick (in_range c.addr c.base r) true (any_in c.addr c.base rs))))
-        ≡ pick t (span.Bad fault.Sum) (pick (any_large c.base rs) (span.Bad fault.Sum)
-        (span.At n f (pick (pick held true (in_range c.addr c.base r)) true (any_in c.addr c.base rs))))
+        pick {A = Span} (pick t true (any_large c.base rs)) (Err fault.Sum)
+        (Ok (n, f, pick held true (pick (in_range c.addr c.base r) true (any_in c.addr c.base rs))))
+        ≡ pick t (Err fault.Sum) (pick (any_large c.base rs) (Err fault.Sum)
+        (Ok (n, f, pick (pick held true (in_range c.addr c.base r)) true (any_in c.addr c.base rs))))
     go true held = refl
     go false true = refl
     go false false = refl
@@ -125,17 +134,17 @@ and-range c fresh first held r (some k rs) = go (too_large c.base r)
   where
     go :
         (t : Bool) →
-        pick (pick t true (any_large c.base rs)) (span.Bad fault.Sum) (span.Bad (fault.Unread k))
-        ≡ pick t (span.Bad fault.Sum)
-        (pick (any_large c.base rs) (span.Bad fault.Sum) (span.Bad (fault.Unread k)))
+        pick {A = Span} (pick t true (any_large c.base rs)) (Err fault.Sum) (Err (fault.Unread k))
+        ≡ pick t (Err fault.Sum)
+        (pick (any_large c.base rs) (Err fault.Sum) (Err (fault.Unread k)))
     go true = refl
     go false = refl
 
 -- from what one range comes to
 from_span : Ctx → Bool → ℕ → Bool → (ℕ → Ranges) → Span → Span
-from_span c fresh first held go (span.At n start inside) =
+from_span c fresh first held go (Ok (n, start, inside)) =
     spans_from c false (pick fresh start first) (pick held true inside) (go n)
-from_span c fresh first held go (span.Bad f) = span.Bad f
+from_span c fresh first held go (Err f) = Err f
 
 then-span :
     (c : Ctx) (fresh : Bool) (first : ℕ) (held : Bool) (go : ℕ → Ranges) (O : One) →
@@ -143,54 +152,36 @@ then-span :
 unfolding then_range span_of from_span spans_from any_large
 then-span c fresh first held go (one r n) =
     and-range c fresh first held r (go n)
-    ∙ sym (pick-ap (from_span c fresh first held go) (too_large c.base r) (span.Bad fault.Sum)
-    (span.At n (c.base + r.off) (in_range c.addr c.base r)))
+    ∙ sym (pick-ap (from_span c fresh first held go) (too_large c.base r) (Err fault.Sum)
+    (Ok (n, c.base + r.off, in_range c.addr c.base r)))
 then-span c fresh first held go (unread k) = refl
 
-one-turn :
-    (s : List ℕ) (c : Ctx) (fresh : Bool) (first : ℕ) (held : Bool) (to : ℕ) (r : Span) → r ≡ span_of c (range_at s to) →
-    (k : ℕ) →
-    spans_from c fresh first held (ranges_at (suc k) s to) ≡ from_span c fresh first held (ranges_at (suc k - 1) s) r
-unfolding ranges_at
-one-turn s c fresh first held to r R k =
-    then-span c fresh first held (ranges_at k s) (range_at s to)
-    ∙ ap (from_span c fresh first held (ranges_at k s)) (sym R)
-    ∙ ap (λ (j : ℕ). from_span c fresh first held (ranges_at j s) r) (sym (sub-one (suc k)))
-
-module _ (s : List ℕ) (c : Ctx) (count left first : ℕ) (held : Bool) (to : ℕ) (r : Span)
-    (R : r ≡ span_of c (range_at s to)) (l : 0 < left) where
+module _ (s : List ℕ) (c : Ctx) (fresh : Bool) (left rest first : ℕ) (held : Bool) (to : ℕ) (r : Span)
+    (R : r ≡ span_of c (range_at s to)) (l : left ≡ suc rest) where
   turn :
-      spans_from c (eqb left count) first held (ranges_at left s to)
-      ≡ from_span c (eqb left count) first held (ranges_at (left - 1) s) r
-  turn = go left l
-    where
-      go :
-          (k : ℕ) → 0 < k →
-          spans_from c (eqb left count) first held (ranges_at k s to)
-          ≡ from_span c (eqb left count) first held (ranges_at (k - 1) s) r
-      go zero h = absurd (omega arith)
-      go (suc k) h = one-turn s c (eqb left count) first held to r R k
+      spans_from c fresh first held (ranges_at left s to) ≡ from_span c fresh first held (ranges_at rest s) r
+  unfolding ranges_at
+  turn =
+      ap (λ (k : ℕ). spans_from c fresh first held (ranges_at k s to)) l
+      ∙ then-span c fresh first held (ranges_at rest s) (range_at s to)
+      ∙ ap (from_span c fresh first held (ranges_at rest s)) (sym R)
 
-  pub spans-bad :
-      (f : Fault) → r ≡ span.Bad f → span.Bad f ≡ spans_from c (eqb left count) first held (ranges_at left s to)
+  pub spans-bad : (f : Fault) → r ≡ Err f → Err f ≡ spans_from c fresh first held (ranges_at left s to)
   unfolding from_span
-  spans-bad f p = sym (turn ∙ ap (from_span c (eqb left count) first held (ranges_at (left - 1) s)) p)
+  spans-bad f p = sym (turn ∙ ap (from_span c fresh first held (ranges_at rest s)) p)
 
   -- what is kept after a turn
   pub spans-at :
-      (n start : ℕ) (inside : Bool) → r ≡ span.At n start inside → left ≤ count →
-      (x : ℕ) → x ≡ pick (eqb left count) start first → (y : Bool) → y ≡ pick held true inside →
-      spans_from c (eqb left count) first held (ranges_at left s to)
-      ≡ spans_from c (eqb (left - 1) count) x y (ranges_at (left - 1) s n)
+      (n start : ℕ) (inside : Bool) → r ≡ Ok (n, start, inside) →
+      (x : ℕ) → x ≡ pick fresh start first → (y : Bool) → y ≡ pick held true inside →
+      spans_from c fresh first held (ranges_at left s to) ≡ spans_from c false x y (ranges_at rest s n)
   unfolding from_span
-  spans-at n start inside p le x ex y ey =
-      turn
-      ∙ ap (from_span c (eqb left count) first held (ranges_at (left - 1) s)) p
-      ∙ rw (ne_eqb (left - 1) count (λ e. omega arith), ex, ey)
+  spans-at n start inside p x ex y ey =
+      turn ∙ ap (from_span c fresh first held (ranges_at rest s)) p ∙ rw (ex, ey)
 
 pub spans-none :
     (s : List ℕ) (c : Ctx) (fresh : Bool) (first : ℕ) (held : Bool) (left to : ℕ) → left ≡ 0 →
-    span.At to first held ≡ spans_from c fresh first held (ranges_at left s to)
+    Ok (to, first, held) ≡ spans_from c fresh first held (ranges_at left s to)
 unfolding ranges_at spans_from any_large any_in first_from
 spans-none s c fresh first true zero to z = refl
 spans-none s c fresh first false zero to z = refl

@@ -1,5 +1,6 @@
 -- Reading judged nodes off the bytes says what the tree says that the bytes hold.
 -- Assumes nothing.
+use Rattle.std.proofs.Common.{Ok, Err, Result}
 use Prim.Native.Nat.{ℕ, zero, suc, ◌+◌}
 use mathlib.Core.List.{List}
 use mathlib.Core.Bool.{Bool, true, false}
@@ -51,8 +52,6 @@ use Rattle.inline.specs.declared.head.Fault.TheVariants as fault
 use Rattle.inline.specs.declared.judge.Ctx.{Ctx}
 use Rattle.inline.specs.declared.judge.Judged.{Judged}
 use Rattle.inline.specs.declared.judge.Seen.TheVariants as seen
-use Rattle.inline.specs.declared.skipping.Passed.{Passed}
-use Rattle.inline.specs.declared.skipping.Passed.TheVariants as passed
 use Rattle.inline.proofs.Numbers.{pick-ap}
 use Rattle.inline.proofs.Passing.{passed_of, skip_is}
 
@@ -102,7 +101,7 @@ module _ (c : Ctx) (self : Node) where
     where
       by-deep :
           (d : Bool) →
-          after_skip acc (pick d (passed.Bad fault.Level) (passed.At m)) ≡ out_of m
+          after_skip acc (pick d (Err fault.Level) (Ok m)) ≡ out_of m
           (pick d (wrong fault.Level) (fine acc))
       by-deep true = refl
       by-deep false = refl
@@ -182,7 +181,7 @@ module _ (c : Ctx) (self : Node) where
 -- ---- from what stands at a place
 
 part-is :
-    (go : ℕ → List InlineFrame → Out) (reads : Ctx → ℕ → List InlineFrame → Out) (skips : ℕ → Passed) (c : Ctx)
+    (go : ℕ → List InlineFrame → Out) (reads : Ctx → ℕ → List InlineFrame → Out) (skips : ℕ → Result ℕ Fault) (c : Ctx)
     (acc : List InlineFrame) (f : Fault) (d a : Bool) →
     then_seen go (after_seen reads skips c acc (pick d (seen.Bad fault.Level) (pick a (seen.Bad fault.Sum) (seen.Bad f))))
     ≡ bad (pick d fault.Level (pick a fault.Sum f))
@@ -192,7 +191,7 @@ part-is go reads skips c acc f false true = refl
 part-is go reads skips c acc f false false = refl
 
 late_is :
-    (go : ℕ → List InlineFrame → Out) (reads : Ctx → ℕ → List InlineFrame → Out) (skips : ℕ → Passed) (c : Ctx)
+    (go : ℕ → List InlineFrame → Out) (reads : Ctx → ℕ → List InlineFrame → Out) (skips : ℕ → Result ℕ Fault) (c : Ctx)
     (acc : List InlineFrame) (f : Fault) (d a b : Bool) →
     then_seen go (after_seen reads skips c acc
     (pick d (seen.Bad fault.Level) (pick a (seen.Bad fault.Sum) (pick b (seen.Bad fault.CallFile) (seen.Bad f)))))
@@ -237,7 +236,7 @@ module _ (f : ℕ) (s : List ℕ)
       ≡ after_skip acc (passed_of (c.level + 1) (kids_of v))
   unfolding kids_of passed_of after_skip deep_in
   shut-is v acc =
-      ap (λ (x : Passed). pick (eqb v.kids 0) (past v.next acc) (after_skip acc x))
+      ap (λ (x : Result ℕ Fault). pick (eqb v.kids 0) (past v.next acc) (after_skip acc x))
       (skip_is f s (c.level + 1) v.next)
       ∙ sym (pick-ap (λ (K : Read). after_skip acc (passed_of (c.level + 1) K)) (eqb v.kids 0) (got v.next none)
       (read_list f s v.next))

@@ -1,5 +1,6 @@
 -- One judged node from its head, and what is left of a list of judged nodes.
 -- Assumes nothing.
+use Rattle.std.proofs.Common.{Ok, Err, Some, None, Option, Result}
 use Prim.Native.Nat.{ℕ, zero, suc, ◌+◌, ◌-◌, ◌*◌, ◌<◌, ◌≤◌}
 use mathlib.Core.List.{List, [], ◌∷◌, ◌++◌, append-nil}
 use mathlib.Core.Bool.{Bool, true, false}
@@ -44,10 +45,6 @@ use Rattle.inline.specs.declared.judge.Ctx.{Ctx}
 use Rattle.inline.specs.declared.judge.Judged.{Judged}
 use Rattle.inline.specs.declared.judge.Seen.{Seen}
 use Rattle.inline.specs.declared.judge.Seen.TheVariants as seen
-use Rattle.inline.specs.declared.skipping.Passed.{Passed}
-use Rattle.inline.specs.declared.skipping.Passed.TheVariants as passed
-use Rattle.inline.specs.declared.walk.Held.{Held}
-use Rattle.inline.specs.declared.walk.Held.TheVariants as held
 use Rattle.inline.specs.declared.walk.Walk.{Walk}
 use Rattle.inline.specs.declared.walk.Walk.TheVariants as walk
 use Rattle.inline.proofs.Progress.{seen-end-next, seen_next}
@@ -56,7 +53,7 @@ use Rattle.inline.proofs.Stores.{frames-length, frames-push}
 -- ---- a frame
 
 module _ (c : Ctx) (name file line : ℕ) (xs : List ℕ) (count : ℕ) (le : count ≤ c.room) where
-  pub pushed_none : name ≡ 0 → Pushed c (frame name file line) xs count xs (held.Now count)
+  pub pushed_none : name ≡ 0 → Pushed c (frame name file line) xs count xs (Some count)
   unfolding put_frame
   pushed_none z =
       let l : length (frames_in count xs) ≤ c.room = omega (arith, frames-length count xs) in
@@ -66,7 +63,7 @@ module _ (c : Ctx) (name file line : ℕ) (xs : List ℕ) (count : ℕ) (le : co
       }
 
   module _ (z : name ≡ 0 → ⊥) where
-    pub pushed-full : c.room ≤ count → Pushed c (frame name file line) xs count xs held.Full
+    pub pushed-full : c.room ≤ count → Pushed c (frame name file line) xs count xs None
     unfolding put_frame
     pushed-full h =
         let l : c.room < length (frames_in count xs ++ frame name file line ∷ []) =
@@ -76,7 +73,7 @@ module _ (c : Ctx) (name file line : ℕ) (xs : List ℕ) (count : ℕ) (le : co
     pub pushed-one :
         count < c.room → 3 * c.room ≤ length xs →
         Pushed c (frame name file line) xs count
-        (set (set (set xs (3 * count) name) (3 * count + 1) file) (3 * count + 2) line) (held.Now (count + 1))
+        (set (set (set xs (3 * count) name) (3 * count + 1) file) (3 * count + 2) line) (Some (count + 1))
     unfolding put_frame
     pushed-one h k =
         let l : length (frames_in count xs ++ frame name file line ∷ []) ≤ c.room =
@@ -146,17 +143,17 @@ module _ (s : List ℕ) (c : Ctx) (at : ℕ) (xs : List ℕ) (count : ℕ) (h : 
           ∙ ap (λ (b : Bool). pick b (open-way f) (shut-way f)) (sym o)
           ∙ judged f
 
-      module _ (ys : List ℕ) (r : Held) (P : Pushed c (frame_in i) xs count ys r) where
-        pub walked-full : r ≡ held.Full → Walked s c at xs count ys (walk.Bad fault.Room)
+      module _ (ys : List ℕ) (r : Option ℕ) (P : Pushed c (frame_in i) xs count ys r) where
+        pub walked-full : r ≡ None → Walked s c at xs count ys (walk.Bad fault.Room)
         unfolding after_put
         walked-full q = record {
           goes = tt;
-          says = λ f _. opened f full (ap (λ (w : Held). view_held w ys) (sym q) ∙ P.same);
+          says = λ f _. opened f full (ap (λ (w : Option ℕ). view_held w ys) (sym q) ∙ P.same);
         }
 
-        module _ (n : ℕ) (q : r ≡ held.Now n) where
+        module _ (n : ℕ) (q : r ≡ Some n) where
           roomed : put (frames_in n ys) ≡ put_frame c (frame_in i) (frames_in count xs)
-          roomed = ap (λ (w : Held). view_held w ys) (sym q) ∙ P.same
+          roomed = ap (λ (w : Option ℕ). view_held w ys) (sym q) ∙ P.same
 
           pub held-room : n ≤ c.room
           held-room = subst (HeldGoes c.room) q P.goes
@@ -204,7 +201,7 @@ module _ (s : List ℕ) (c : Ctx) (at : ℕ) (xs : List ℕ) (count : ℕ) (h : 
                 ∙ closed f;
           }
 
-      module _ (z : i.kids ≡ 0 → ⊥) (k : Passed) (K : SkippedAll s (c.level + 1) i.next k) where
+      module _ (z : i.kids ≡ 0 → ⊥) (k : Result ℕ Fault) (K : SkippedAll s (c.level + 1) i.next k) where
         skips : (f : ℕ) → length s - at ≤ f → after_skip (frames_in count xs) k ≡ walk_node f s c at (frames_in count xs)
         unfolding shut-way
         skips f lf =
@@ -214,18 +211,18 @@ module _ (s : List ℕ) (c : Ctx) (at : ℕ) (xs : List ℕ) (count : ℕ) (h : 
             (after_skip (frames_in count xs) (skip_list f s (c.level + 1) i.next))) (sym (ne_eqb i.kids 0 z))
             ∙ closed f
 
-        pub walked-shut : (m : ℕ) → k ≡ passed.At m → Walked s c at xs count xs (walk.Past m count)
+        pub walked-shut : (m : ℕ) → k ≡ Ok m → Walked s c at xs count xs (walk.Past m count)
         unfolding after_skip
         walked-shut m p =
             let g = seen_next s c at h H i e in
-            let b : PassedGoes i.next (length s) (passed.At m) = subst (PassedGoes i.next (length s)) p
+            let b : PassedGoes i.next (length s) (Ok m) = subst (PassedGoes i.next (length s)) p
             K.goes in
             record {
               goes = (omega (arith, g.0, b.0), b.1, le);
               says = λ f lf. ap (after_skip (frames_in count xs)) (sym p) ∙ skips f lf;
             }
 
-        pub walked-shut-bad : (m : Fault) → k ≡ passed.Bad m → Walked s c at xs count xs (walk.Bad m)
+        pub walked-shut-bad : (m : Fault) → k ≡ Err m → Walked s c at xs count xs (walk.Bad m)
         unfolding after_skip
         walked-shut-bad m p = record {
           goes = tt;

@@ -4,8 +4,6 @@ use Rattle.std.specs.Prelude.{ℕ, ◌*◌, ◌/◌, min, List, [], ◌≡◌, l
 use Rattle.types.specs.declared.InlineFrame.{InlineFrame}
 use Rattle.inline.specs.Store.{flat}
 use Rattle.inline.specs.Walk.{Out, ended, past, bad, walk_node}
-use Rattle.inline.specs.declared.head.Cause.{Cause}
-use Rattle.inline.specs.declared.head.Cause.TheVariants as cause
 use Rattle.inline.specs.declared.head.Fault.{Fault}
 use Rattle.inline.specs.declared.head.Fault.TheVariants as fault
 use Rattle.inline.specs.declared.judge.Ctx.{Ctx}
@@ -15,14 +13,9 @@ pub data Block : Type 0 where
   listed : List InlineFrame → Block
   refused : ℕ → Block
 
--- inline bytes don't read, whatever the cause
-unfoldable pub node_no : Cause → ℕ
-node_no cause.Short = 10
-node_no cause.Wide = 10
-
--- the number of each fault
+-- the number of each fault; inline bytes that don't read have one, whatever the cause
 unfoldable pub fault_no : Fault → ℕ
-fault_no (fault.Unread k) = node_no k
+fault_no (fault.Unread k) = 10
 fault_no fault.Sum = 11
 fault_no fault.CallFile = 12
 fault_no fault.Level = 13

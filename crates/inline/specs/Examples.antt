@@ -7,7 +7,6 @@ use Rattle.leb128.specs.Leb.{digits, unsigned}
 use Rattle.leb128.specs.Answers.{unsigned_at}
 use Rattle.inline.specs.Frames.{in_range, any_in, first_off}
 use Rattle.inline.specs.Head.{
-  num_at,
   with_size,
   with_off,
   range_at,
@@ -51,7 +50,7 @@ parent root =
 
 -- both contain 0x1005
 pub t9 : block_of 0x1000 0x1005 64 (parent 1) ≡ listed (frame 1 0 0 ∷ frame 5 1 10 ∷ [])
-unfolding le le_in u8_at u32_at digits unsigned unsigned_at in_range any_in first_off num_at with_size with_off range_at
+unfolding le le_in u8_at u32_at digits unsigned unsigned_at in_range any_in first_off with_size with_off range_at
     and_range then_range ranges_at with_line with_file with_name with_kids tail_at with_tail with_ranges with_count raw_at
     head_of head_at too_large any_large seen_of seen_at after_head then_skip skip_list put_frame after_put after_skip
     after_judged after_seen then_seen walk_list walk_node block_from block_of
@@ -59,7 +58,7 @@ t9 = refl
 
 -- only the root contains 0x100c
 pub t10 : block_of 0x1000 0x100c 64 (parent 1) ≡ listed (frame 1 0 0 ∷ [])
-unfolding le le_in u8_at u32_at digits unsigned unsigned_at in_range any_in first_off num_at with_size with_off range_at
+unfolding le le_in u8_at u32_at digits unsigned unsigned_at in_range any_in first_off with_size with_off range_at
     and_range then_range ranges_at with_line with_file with_name with_kids tail_at with_tail with_ranges with_count raw_at
     head_of head_at too_large any_large seen_of seen_at after_head then_skip skip_list put_frame after_put after_skip
     after_judged after_seen then_seen walk_list walk_node block_from block_of
@@ -67,7 +66,7 @@ t10 = refl
 
 -- the root has no name
 pub t11 : block_of 0x1000 0x1005 64 (parent 0) ≡ listed (frame 5 1 10 ∷ [])
-unfolding le le_in u8_at u32_at digits unsigned unsigned_at in_range any_in first_off num_at with_size with_off range_at
+unfolding le le_in u8_at u32_at digits unsigned unsigned_at in_range any_in first_off with_size with_off range_at
     and_range then_range ranges_at with_line with_file with_name with_kids tail_at with_tail with_ranges with_count raw_at
     head_of head_at too_large any_large seen_of seen_at after_head then_skip skip_list put_frame after_put after_skip
     after_judged after_seen then_seen walk_list walk_node block_from block_of
@@ -75,7 +74,7 @@ t11 = refl
 
 -- `00`
 pub t12 : block_of 0x1000 0x1005 64 (0x00 ∷ []) ≡ listed []
-unfolding le le_in u8_at u32_at digits unsigned unsigned_at in_range any_in first_off num_at with_size with_off range_at
+unfolding le le_in u8_at u32_at digits unsigned unsigned_at in_range any_in first_off with_size with_off range_at
     and_range then_range ranges_at with_line with_file with_name with_kids tail_at with_tail with_ranges with_count raw_at
     head_of head_at too_large any_large seen_of seen_at after_head then_skip skip_list put_frame after_put after_skip
     after_judged after_seen then_seen walk_list walk_node block_from block_of

@@ -9,53 +9,36 @@
 --
 -- A head that doesn't read keeps what was read of it, and the cause: the bytes end, or a number is too wide.
 -- Assumes nothing.
-use Rattle.std.specs.Prelude.{ℕ, zero, suc, ◌+◌, min, List, [], ◌∷◌, ltb, eqb, length}
+use Rattle.std.specs.Prelude.{Ok, Err, Some, None, Option, Result, ℕ, zero, suc, ◌+◌, min, List, [], ◌∷◌, ltb, eqb, length}
 use Rattle.reads.specs.Pick.{pick}
 use Rattle.reads.specs.Answers.{u8_at, u32_at}
-use Rattle.reads.specs.declared.Read8.{Read8}
-use Rattle.reads.specs.declared.Read8.TheVariants as r8
-use Rattle.reads.specs.declared.Read32.{Read32}
-use Rattle.reads.specs.declared.Read32.TheVariants as r32
 use Rattle.leb128.specs.Answers.{unsigned_at}
-use Rattle.leb128.specs.declared.Unsigned.{Unsigned}
-use Rattle.leb128.specs.declared.Unsigned.TheVariants as u
 use Rattle.inline.specs.Tree.{Range, Node}
-use Rattle.inline.specs.declared.head.Cause.{Cause}
-use Rattle.inline.specs.declared.head.Cause.TheVariants as cause
+use Rattle.leb128.specs.declared.Cause.{Cause}
+use Rattle.leb128.specs.declared.Cause.TheVariants as cause
 use Rattle.inline.specs.declared.head.Fault.TheVariants as fault
-use Rattle.inline.specs.declared.head.Num.{Num}
-use Rattle.inline.specs.declared.head.Num.TheVariants as num
-use Rattle.inline.specs.declared.head.Place.{Place}
-use Rattle.inline.specs.declared.head.Place.TheVariants as place
-use Rattle.inline.specs.declared.head.Tail.{Tail}
-use Rattle.inline.specs.declared.head.Tail.TheVariants as tail
+use Rattle.inline.specs.Tail.{Tail}
+use Rattle.inline.specs.Tail as tail
+use Rattle.inline.specs.declared.head.Fault.{Fault}
+use Rattle.inline.specs.declared.head.NodeHead.{NodeHead}
 use Rattle.inline.specs.declared.head.Head.{Head}
 use Rattle.inline.specs.declared.head.Head.TheVariants as head
-
--- a number and the place after it, or why it doesn't read
-abbrev pub num_of : Unsigned → Num
-num_of (u.Value v n) = num.Value v n
-num_of u.Short = num.Bad cause.Short
-num_of u.Wide = num.Bad cause.Wide
-
-unfoldable pub num_at : List ℕ → ℕ → Num
-num_at s at = num_of (unsigned_at s at)
 
 -- one range and the place after it
 pub data One : Type 0 where
   one : Range → ℕ → One
   unread : Cause → One
 
-unfoldable pub with_size : ℕ → Num → One
-with_size off (num.Value size n) = one (record { off = off; size = size }) n
-with_size off (num.Bad c) = unread c
+unfoldable pub with_size : ℕ → Result (ℕ × ℕ) Cause → One
+with_size off (Ok (size, n)) = one (record { off = off; size = size }) n
+with_size off (Err c) = unread c
 
-unfoldable pub with_off : List ℕ → Num → One
-with_off s (num.Value off n) = with_size off (num_at s n)
-with_off s (num.Bad c) = unread c
+unfoldable pub with_off : List ℕ → Result (ℕ × ℕ) Cause → One
+with_off s (Ok (off, n)) = with_size off (unsigned_at s n)
+with_off s (Err c) = unread c
 
 unfoldable pub range_at : List ℕ → ℕ → One
-range_at s at = with_off s (num_at s at)
+range_at s at = with_off s (unsigned_at s at)
 
 -- ranges: all of them and the place after them, or those before one that doesn't read
 pub data Ranges : Type 0 where
@@ -75,22 +58,22 @@ ranges_at zero s at = all at []
 ranges_at (suc count) s at = then_range (ranges_at count s) (range_at s at)
 
 -- what follows the ranges: children byte, name, call file, call line
-unfoldable pub with_line : ℕ → ℕ → ℕ → Num → Tail
-with_line kids name file (num.Value line n) =
+unfoldable pub with_line : ℕ → ℕ → ℕ → Result (ℕ × ℕ) Cause → Tail
+with_line kids name file (Ok (line, n)) =
     tail.Whole (record { kids = kids; name = name; file = file; line = min 4294967295 line; next = n })
-with_line kids name file (num.Bad c) = tail.Late file c
+with_line kids name file (Err c) = tail.Late file c
 
-unfoldable pub with_file : List ℕ → ℕ → ℕ → Num → Tail
-with_file s kids name (num.Value file n) = with_line kids name file (num_at s n)
-with_file s kids name (num.Bad c) = tail.Cut c
+unfoldable pub with_file : List ℕ → ℕ → ℕ → Result (ℕ × ℕ) Cause → Tail
+with_file s kids name (Ok (file, n)) = with_line kids name file (unsigned_at s n)
+with_file s kids name (Err c) = tail.Cut c
 
-unfoldable pub with_name : List ℕ → ℕ → ℕ → Read32 → Tail
-with_name s at kids (r32.Value name) = with_file s kids name (num_at s (at + 5))
-with_name s at kids r32.Unread = tail.Cut cause.Short
+unfoldable pub with_name : List ℕ → ℕ → ℕ → Option ℕ → Tail
+with_name s at kids (Some name) = with_file s kids name (unsigned_at s (at + 5))
+with_name s at kids None = tail.Cut cause.Short
 
-unfoldable pub with_kids : List ℕ → ℕ → Read8 → Tail
-with_kids s at (r8.Value kids) = with_name s at kids (u32_at s (at + 1))
-with_kids s at r8.Unread = tail.Cut cause.Short
+unfoldable pub with_kids : List ℕ → ℕ → Option ℕ → Tail
+with_kids s at (Some kids) = with_name s at kids (u32_at s (at + 1))
+with_kids s at None = tail.Cut cause.Short
 
 unfoldable pub tail_at : List ℕ → ℕ → Tail
 tail_at s at = with_kids s at (u8_at s at)
@@ -126,12 +109,12 @@ unfoldable pub with_ranges : List ℕ → ℕ → Ranges → Raw
 with_ranges s first (all n rs) = with_tail first rs (tail_at s n)
 with_ranges s first (some c rs) = part c rs
 
-unfoldable pub with_count : List ℕ → Num → Raw
-with_count s (num.Value count n) = pick (eqb count 0) (end n) (with_ranges s n (ranges_at count s n))
-with_count s (num.Bad c) = cut c
+unfoldable pub with_count : List ℕ → Result (ℕ × ℕ) Cause → Raw
+with_count s (Ok (count, n)) = pick (eqb count 0) (end n) (with_ranges s n (ranges_at count s n))
+with_count s (Err c) = cut c
 
 unfoldable pub raw_at : List ℕ → ℕ → Raw
-raw_at s at = with_count s (num_at s at)
+raw_at s at = with_count s (unsigned_at s at)
 
 -- a node on level 65 is refused once its range count is read and is not 0
 abbrev pub on_level : {A : Type 0} → ℕ → A → A → A
@@ -160,7 +143,30 @@ head_of level (node w) = on_level level (head.Bad fault.Level) (whole_head w)
 unfoldable pub head_at : List ℕ → ℕ → ℕ → Head
 head_at s level at = head_of level (raw_at s at)
 
--- ranges that are passed over
-unfoldable pub place_of : Ranges → Place
-place_of (all n rs) = place.At n
-place_of (some c rs) = place.Bad c
+-- ---- a node as a caller gets it, after its range count: level, ranges that are passed over, and what follows them
+
+unfoldable pub place_of : Ranges → Result ℕ Cause
+place_of (all n rs) = Ok n
+place_of (some c rs) = Err c
+
+unfoldable pub head_tail : ℕ → ℕ → Tail → Result NodeHead Fault
+head_tail count first (tail.Cut c) = Err (fault.Unread c)
+head_tail count first (tail.Late file c) = Err (fault.Unread c)
+head_tail count first (tail.Whole t) =
+    Ok (record {
+      ranges = count;
+      first = first;
+      kids = t.kids;
+      name = record { 0 = t.name };
+      call_file = t.file;
+      call_line = record { 0 = t.line };
+      next = t.next;
+    })
+
+unfoldable pub with_place : List ℕ → ℕ → ℕ → Result ℕ Cause → Result NodeHead Fault
+with_place s count first (Ok m) = head_tail count first (tail_at s m)
+with_place s count first (Err c) = Err (fault.Unread c)
+
+unfoldable pub node_head : List ℕ → ℕ → ℕ → ℕ → Result NodeHead Fault
+node_head s level count first =
+    on_level level (Err fault.Level) (with_place s count first (place_of (ranges_at count s first)))

@@ -3,7 +3,7 @@
 -- Order inside a node: range count, level, then per range offset, size, start, end; children byte, name, call file, its
 -- limit, call line. So a head that breaks off is judged by the ranges and the call file that were read before it did.
 -- Assumes nothing.
-use Rattle.std.specs.Prelude.{ℕ, ◌+◌, List, Bool, ltb}
+use Rattle.std.specs.Prelude.{Ok, Err, Result, ℕ, ◌+◌, List, Bool, ltb}
 use Rattle.reads.specs.Pick.{pick}
 use Rattle.inline.specs.Tree.{Range}
 use Rattle.inline.specs.Frames.{in_range, any_in, first_off, child_base}
@@ -22,16 +22,15 @@ use Rattle.inline.specs.Head.{
   part,
   late,
   node,
+  tail_at,
   raw_at,
   on_level,
 }
 use Rattle.inline.specs.declared.head.Fault.{Fault}
 use Rattle.inline.specs.declared.head.Fault.TheVariants as fault
-use Rattle.inline.specs.declared.head.Tail.{Tail}
-use Rattle.inline.specs.declared.head.Tail.TheVariants as tail
+use Rattle.inline.specs.Tail.{Tail}
+use Rattle.inline.specs.Tail as tail
 use Rattle.inline.specs.declared.judge.Ctx.{Ctx}
-use Rattle.inline.specs.declared.judge.Span.{Span}
-use Rattle.inline.specs.declared.judge.Span.TheVariants as span
 use Rattle.inline.specs.declared.judge.Judged.{Judged}
 use Rattle.inline.specs.declared.judge.Seen.{Seen}
 use Rattle.inline.specs.declared.judge.Seen.TheVariants as seen
@@ -71,26 +70,30 @@ seen_at s c at = seen_of c (raw_at s at)
 
 -- ---- what the parts of a judged head come to
 
--- one range: the place after it, its start, and whether it contains the address
+-- ranges that were judged: the place after them, the start of the first, and whether one of them contains the address
+abbrev pub Span : Type 0
+Span = Result (ℕ × ℕ × Bool) Fault
+
+-- one range
 unfoldable pub span_of : Ctx → One → Span
 span_of c (one r n) =
-    pick (too_large c.base r) (span.Bad fault.Sum)
-    (span.At n (c.base + r.off) (in_range c.addr c.base r))
-span_of c (unread k) = span.Bad (fault.Unread k)
+    pick (too_large c.base r) (Err fault.Sum)
+    (Ok (n, c.base + r.off, in_range c.addr c.base r))
+span_of c (unread k) = Err (fault.Unread k)
 
--- all ranges: the place after them, the start of the first, and whether one of them contains the address
+-- all ranges
 unfoldable pub spans_of : Ctx → Ranges → Span
 spans_of c (all n rs) =
-    pick (any_large c.base rs) (span.Bad fault.Sum)
-    (span.At n (c.base + first_off rs) (any_in c.addr c.base rs))
-spans_of c (some k rs) = pick (any_large c.base rs) (span.Bad fault.Sum) (span.Bad (fault.Unread k))
+    pick (any_large c.base rs) (Err fault.Sum)
+    (Ok (n, c.base + first_off rs, any_in c.addr c.base rs))
+spans_of c (some k rs) = pick (any_large c.base rs) (Err fault.Sum) (Err (fault.Unread k))
 
 -- what follows the ranges, with the first range's start and whether the node contains the address
-unfoldable pub end_of : ℕ → Bool → Tail → Seen
-end_of start inside (tail.Cut k) = seen.Bad (fault.Unread k)
-end_of start inside (tail.Late file k) = file_fits seen.Bad file (seen.Bad (fault.Unread k))
+unfoldable pub end_of : ℕ → Bool → Tail → Result Judged Fault
+end_of start inside (tail.Cut k) = Err (fault.Unread k)
+end_of start inside (tail.Late file k) = file_fits Err file (Err (fault.Unread k))
 end_of start inside (tail.Whole t) =
-    file_fits seen.Bad t.file (seen.Node (record {
+    file_fits Err t.file (Ok (record {
       next = t.next;
       base = start;
       inside = inside;
@@ -99,3 +102,11 @@ end_of start inside (tail.Whole t) =
       file = t.file;
       line = t.line;
     }))
+
+-- what follows the range count: the level, the ranges, and what follows them
+unfoldable pub with_spans : List ℕ → Span → Result Judged Fault
+with_spans s (Ok (m, start, inside)) = end_of start inside (tail_at s m)
+with_spans s (Err f) = Err f
+
+unfoldable pub node_of : List ℕ → Ctx → Ranges → Result Judged Fault
+node_of s c rs = on_level c.level (Err fault.Level) (with_spans s (spans_of c rs))

@@ -2,6 +2,7 @@ pub mod Tree
 pub mod Frames
 pub mod Fits
 pub mod Paths
+pub mod Tail
 pub mod Head
 pub mod Judge
 pub mod Skip

@@ -7,8 +7,8 @@ use Rattle.std.specs.Prelude.{ℕ, zero, suc, List, eqb, length}
 use Rattle.reads.specs.Pick.{pick}
 use Rattle.inline.specs.Tree.{Range, Node, Forest, none, tree}
 use Rattle.inline.specs.Head.{Raw, end, cut, part, late, node, raw_at}
-use Rattle.inline.specs.declared.head.Cause.{Cause}
-use Rattle.inline.specs.declared.head.Cause.TheVariants as cause
+use Rattle.leb128.specs.declared.Cause.{Cause}
+use Rattle.leb128.specs.declared.Cause.TheVariants as cause
 
 -- nodes side by side that break off: at a range count, in a head after these ranges, in a head's call line, among a
 -- node's children, or after a node

@@ -3,23 +3,19 @@
 --
 -- Fuel stands for the bytes left, as in passing over.
 -- Assumes nothing.
-use Rattle.std.specs.Prelude.{ℕ, zero, suc, ◌+◌, ◌-◌, ◌≤◌, ◌<◌, List, [], ◌∷◌, ◌++◌, ◌≡◌, ltb, eqb, length}
+use Rattle.std.specs.Prelude.{Ok, Err, Some, None, Option, Result, ℕ, zero, suc, ◌+◌, ◌-◌, ◌≤◌, ◌<◌, List, [], ◌∷◌, ◌++◌, ◌≡◌, ltb, eqb, length}
 use Rattle.types.specs.declared.InlineFrame.{InlineFrame}
 use Rattle.reads.specs.Pick.{pick}
 use Rattle.inline.specs.Judge.{seen_at}
 use Rattle.inline.specs.Skip.{skip_list}
 use Rattle.inline.specs.Store.{frame, frames_in}
-use Rattle.inline.specs.declared.head.Cause.TheVariants as cause
+use Rattle.leb128.specs.declared.Cause.TheVariants as cause
 use Rattle.inline.specs.declared.head.Fault.{Fault}
 use Rattle.inline.specs.declared.head.Fault.TheVariants as fault
 use Rattle.inline.specs.declared.judge.Ctx.{Ctx}
 use Rattle.inline.specs.declared.judge.Judged.{Judged}
 use Rattle.inline.specs.declared.judge.Seen.{Seen}
 use Rattle.inline.specs.declared.judge.Seen.TheVariants as seen
-use Rattle.inline.specs.declared.skipping.Passed.{Passed}
-use Rattle.inline.specs.declared.skipping.Passed.TheVariants as passed
-use Rattle.inline.specs.declared.walk.Held.{Held}
-use Rattle.inline.specs.declared.walk.Held.TheVariants as held
 use Rattle.inline.specs.declared.walk.Walk.{Walk}
 use Rattle.inline.specs.declared.walk.Walk.TheVariants as walk
 
@@ -56,19 +52,19 @@ after_put kids i full = bad fault.Room
 after_put kids i (put acc) = pick (eqb i.kids 0) (past i.next acc) (kids i.next acc)
 
 -- a closed node: its children are passed over
-unfoldable pub after_skip : List InlineFrame → Passed → Out
-after_skip acc (passed.At n) = past n acc
-after_skip acc (passed.Bad f) = bad f
+unfoldable pub after_skip : List InlineFrame → Result ℕ Fault → Out
+after_skip acc (Ok n) = past n acc
+after_skip acc (Err f) = bad f
 
 -- a judged node, with `reads` for a list of judged nodes and `skips` for one that is passed over
 unfoldable pub after_judged :
-    (Ctx → ℕ → List InlineFrame → Out) → (ℕ → Passed) → Ctx → List InlineFrame → Judged → Out
+    (Ctx → ℕ → List InlineFrame → Out) → (ℕ → Result ℕ Fault) → Ctx → List InlineFrame → Judged → Out
 after_judged reads skips c acc i =
     pick i.inside
     (after_put (reads (below c i.base)) i (put_frame c (frame_in i) acc))
     (pick (eqb i.kids 0) (past i.next acc) (after_skip acc (skips i.next)))
 
-unfoldable pub after_seen : (Ctx → ℕ → List InlineFrame → Out) → (ℕ → Passed) → Ctx → List InlineFrame → Seen → Out
+unfoldable pub after_seen : (Ctx → ℕ → List InlineFrame → Out) → (ℕ → Result ℕ Fault) → Ctx → List InlineFrame → Seen → Out
 after_seen reads skips c acc (seen.End n) = ended n acc
 after_seen reads skips c acc (seen.Bad f) = bad f
 after_seen reads skips c acc (seen.Node i) = after_judged reads skips c acc i
@@ -92,15 +88,15 @@ walk_node fuel s c at acc = after_seen (walk_list fuel s) (skip_list fuel s (c.l
 
 -- ---- what `push`, `node` and `children` answer; of a fault nothing is said of the store
 
-abbrev pub view_held : Held → List ℕ → Put
-view_held held.Full ys = full
-view_held (held.Now count) ys = put (frames_in count ys)
+abbrev pub view_held : Option ℕ → List ℕ → Put
+view_held None ys = full
+view_held (Some count) ys = put (frames_in count ys)
 
-abbrev pub HeldGoes : ℕ → Held → Type 0
-HeldGoes room held.Full = Unit {0}
-HeldGoes room (held.Now count) = count ≤ room
+abbrev pub HeldGoes : ℕ → Option ℕ → Type 0
+HeldGoes room None = Unit {0}
+HeldGoes room (Some count) = count ≤ room
 
-pub record Pushed (c : Ctx) (f : InlineFrame) (xs : List ℕ) (count : ℕ) (ys : List ℕ) (r : Held) : Type 0 where
+pub record Pushed (c : Ctx) (f : InlineFrame) (xs : List ℕ) (count : ℕ) (ys : List ℕ) (r : Option ℕ) : Type 0 where
   pub goes : HeldGoes c.room r
   pub same : view_held r ys ≡ put_frame c f (frames_in count xs)
 

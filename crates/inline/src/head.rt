@@ -1,18 +1,11 @@
 // A node's head, read with no address in mind: what it says and where its parts stand (document 01, "Inline tree").
 // Judging it at an address is left to `judge`.
 ghost use Rattle.std.specs.Prelude.{◌≡◌, ◌≤◌, min, length};
-ghost use Rattle.inline.specs.Head.{num_at, ranges_at, place_of, tail_at, head_at};
+ghost use Rattle.inline.specs.declared.head.Fault.TheVariants.{Unread};
+ghost use Rattle.inline.specs.Head.{ranges_at, place_of, tail_at, head_tail, node_head, head_at};
 
-use leb128::Unsigned;
-use reads::{Read8, Read32};
+use leb128::{Cause, unsigned_at};
 use types::{LineNumber, StrOffset};
-
-// Why a number doesn't read: the bytes end before it does, or it is too wide.
-#[derive(Clone, Copy)]
-pub enum Cause {
-    Short,
-    Wide,
-}
 
 // What ends the reading of a block. Unread: the bytes don't read. Sum: a start or an end of a range exceeds 2^64-1.
 // CallFile: a call file above 4,294,967,295. Level: a node on level 65. Room: more frames than room.
@@ -25,36 +18,12 @@ pub enum Fault {
     Room,
 }
 
-// A number and the place after it.
-#[derive(Clone, Copy)]
-pub(crate) enum Num {
-    Value(u64, usize),
-    Bad(Cause),
-}
+impl From<Cause> for Fault {
+    ghost from_gives = { λ c f. f ≡ Unread c };
 
-// The place after the ranges.
-#[derive(Clone, Copy)]
-enum Place {
-    At(usize),
-    Bad(Cause),
-}
-
-// What follows the ranges, and the place after it.
-#[derive(Clone, Copy)]
-struct Rest {
-    pub kids: u8,
-    pub name: u32,
-    pub file: u64,
-    pub line: u32,
-    pub next: usize,
-}
-
-// Cut: it doesn't read as far as the call file. Late: the call file reads, the call line doesn't.
-#[derive(Clone, Copy)]
-enum Tail {
-    Cut(Cause),
-    Late(u64, Cause),
-    Whole(Rest),
+    fn from(c: Cause) -> Fault {
+        Fault::Unread(c)
+    }
 }
 
 // A whole head: how many ranges there are and where the first stands, the children byte, name, call file (which is not
@@ -78,73 +47,58 @@ pub enum Head {
     Node(NodeHead),
 }
 
-// The number at `at` and the place after it, or why it doesn't read.
-pub(crate) fn number_at(s: &[u8], at: usize) -> Num
-    ensures { result ≡ num_at s.now at }
-{
-    match leb128::unsigned_at(s, at) {
-        Unsigned::Value { value, next } => Num::Value(value, next),
-        Unsigned::Short => Num::Bad(Cause::Short),
-        Unsigned::Wide => Num::Bad(Cause::Wide),
-    }
-}
-
-// Passes over ranges. Its caller starts inside the bytes or at their end.
-fn pass_ranges(s: &[u8], count: u64, at: usize) -> Place
+// Passes over ranges: the place after them. Its caller starts inside the bytes or at their end.
+fn pass_ranges(s: &[u8], count: u64, at: usize) -> Result<usize, Cause>
     requires { at ≤ length s.now }
     ensures { result ≡ place_of (ranges_at count s.now at) }
 {
-    let mut left = count;
     let mut to = at;
-    while 0 < left {
-        match number_at(s, to) {
-            Num::Bad(c) => return Place::Bad(c),
-            Num::Value(_, m) => match number_at(s, m) {
-                Num::Bad(c) => return Place::Bad(c),
-                Num::Value(_, n) => {
-                    to = n;
-                    left -= 1;
-                }
-            },
-        }
+    for _ in 0..count {
+        let (_, m) = unsigned_at(s, to)?;
+        let (_, n) = unsigned_at(s, m)?;
+        to = n;
     }
-    Place::At(to)
+    Ok(to)
 }
 
 // A call line above 4,294,967,295 becomes that.
 pub(crate) fn capped(line: u64) -> u32
     ensures { result ≡ min 4294967295 line }
 {
-    if 4294967295 < line {
-        4294967295
-    } else {
-        line as u32
-    }
+    line.min(4294967295) as u32
 }
 
-// What follows the ranges of a node.
-fn tail_at(s: &[u8], at: usize) -> Tail
-    ensures { result ≡ tail_at s.now at }
+// What follows the ranges of a node, of which there are `ranges` from `first` on. By itself, and not a part of
+// `node_head`, it is compiled with its reads in line.
+fn head_tail(s: &[u8], ranges: u64, first: usize, at: usize) -> Result<NodeHead, Fault>
+    ensures { result ≡ head_tail ranges first (tail_at s.now at) }
 {
-    match reads::u8_at(s, at) {
-        Read8::Unread => Tail::Cut(Cause::Short),
-        Read8::Value(kids) => match reads::u32_at(s, at + 1) {
-            Read32::Unread => Tail::Cut(Cause::Short),
-            Read32::Value(name) => match number_at(s, at + 5) {
-                Num::Bad(c) => Tail::Cut(c),
-                Num::Value(file, m) => match number_at(s, m) {
-                    Num::Bad(c) => Tail::Late(file, c),
-                    Num::Value(line, next) => Tail::Whole(Rest {
-                        kids,
-                        name,
-                        file,
-                        line: capped(line),
-                        next,
-                    }),
-                },
-            },
-        },
+    let kids = reads::u8_at(s, at).ok_or(Cause::Short)?;
+    let name = reads::u32_at(s, at + 1).ok_or(Cause::Short)?;
+    let (call_file, m) = unsigned_at(s, at + 5)?;
+    let (line, next) = unsigned_at(s, m)?;
+    Ok(NodeHead {
+        ranges,
+        first,
+        kids,
+        name: StrOffset(name),
+        call_file,
+        call_line: LineNumber(capped(line)),
+        next,
+    })
+}
+
+// A node after its range count: its level, its ranges, and what follows them. Its caller starts inside the bytes or at
+// their end.
+fn node_head(s: &[u8], level: usize, ranges: u64, first: usize) -> Result<NodeHead, Fault>
+    requires { first ≤ length s.now }
+    ensures { result ≡ node_head s.now level ranges first }
+{
+    if types::MAX_LEVEL < level {
+        return Err(Fault::Level);
     }
+    let at = pass_ranges(s, ranges, first)?;
+    head_tail(s, ranges, first, at)
 }
 
 // The head of the node at `at`, whose level the caller counts from 1 for the root: a whole head, the list's end, or the
@@ -152,30 +106,15 @@ fn tail_at(s: &[u8], at: usize) -> Tail
 pub fn head_at(s: &[u8], level: usize, at: usize) -> Head
     ensures { result ≡ head_at s.now level at }
 {
-    match number_at(s, at) {
-        Num::Bad(c) => Head::Bad(Fault::Unread(c)),
-        Num::Value(ranges, first) => {
+    match unsigned_at(s, at) {
+        Err(c) => Head::Bad(Fault::Unread(c)),
+        Ok((ranges, first)) => {
             if ranges == 0 {
                 return Head::End(first);
             }
-            if types::MAX_LEVEL < level {
-                return Head::Bad(Fault::Level);
-            }
-            match pass_ranges(s, ranges, first) {
-                Place::Bad(c) => Head::Bad(Fault::Unread(c)),
-                Place::At(m) => match tail_at(s, m) {
-                    Tail::Cut(c) => Head::Bad(Fault::Unread(c)),
-                    Tail::Late(_, c) => Head::Bad(Fault::Unread(c)),
-                    Tail::Whole(r) => Head::Node(NodeHead {
-                        ranges,
-                        first,
-                        kids: r.kids,
-                        name: StrOffset(r.name),
-                        call_file: r.file,
-                        call_line: LineNumber(r.line),
-                        next: r.next,
-                    }),
-                },
+            match node_head(s, level, ranges, first) {
+                Err(f) => Head::Bad(f),
+                Ok(node) => Head::Node(node),
             }
         }
     }

@@ -3,13 +3,10 @@
 ghost use Rattle.std.specs.Prelude.{◌≡◌, true, false, ◌≤◌, leb, ltb, length};
 ghost use Rattle.reads.specs.Pick.{pick};
 ghost use Rattle.inline.specs.Head.{range_at, ranges_at, tail_at};
-ghost use Rattle.inline.specs.Judge.{span_of, spans_of, end_of, seen_at};
+ghost use Rattle.inline.specs.Judge.{span_of, spans_of, end_of, node_of, seen_at};
 
-use super::head::{Cause, Fault, Num, capped, number_at};
-use reads::{Read8, Read32};
-
-// The largest address.
-const ADDRESS_MAX: u64 = 0xffff_ffff_ffff_ffff;
+use super::head::{Fault, capped};
+use leb128::{Cause, unsigned_at};
 
 // The largest call file.
 const CALL_FILE_MAX: u64 = 0xffff_ffff;
@@ -22,13 +19,6 @@ pub(crate) struct Ctx {
     pub addr: u64,
     pub base: u64,
     pub room: usize,
-}
-
-// Ranges that were judged: the place after them, the start of the first, and whether one of them contains the address.
-#[derive(Clone, Copy)]
-enum Span {
-    At(usize, u64, bool),
-    Bad(Fault),
 }
 
 // A node without a fault: the place after its head, where its children's offsets count from, whether it contains the
@@ -56,131 +46,89 @@ pub(crate) enum Seen {
 fn contains(start: u64, end: u64, addr: u64) -> bool
     ensures { result ≡ pick (leb start addr) (ltb addr end) false }
 {
-    if start <= addr {
-        return addr < end;
-    }
-    false
+    start <= addr && addr < end
 }
 
-fn either(a: bool, b: bool) -> bool
-    ensures { result ≡ pick a true b }
-{
-    if a {
-        return true;
-    }
-    b
-}
-
-fn chosen(first: bool, a: u64, b: u64) -> u64
-    ensures { result ≡ pick first a b }
-{
-    if first {
-        return a;
-    }
-    b
-}
-
-// One range: offset, size, start, end, in this order.
-fn range(s: &[u8], ctx: Ctx, at: usize) -> Span
+// One range: offset, size, start, end, in this order. The place after it, its start, and whether it contains the
+// address.
+fn range(s: &[u8], ctx: Ctx, at: usize) -> Result<(usize, u64, bool), Fault>
     ensures { result ≡ span_of ctx (range_at s.now at) }
 {
-    match number_at(s, at) {
-        Num::Bad(c) => Span::Bad(Fault::Unread(c)),
-        Num::Value(off, m) => match number_at(s, m) {
-            Num::Bad(c) => Span::Bad(Fault::Unread(c)),
-            Num::Value(size, n) => {
-                let base = ctx.base;
-                if ADDRESS_MAX - base < off {
-                    return Span::Bad(Fault::Sum);
-                }
-                let start = base + off;
-                if ADDRESS_MAX - start < size {
-                    return Span::Bad(Fault::Sum);
-                }
-                let end = start + size;
-                let inside = contains(start, end, ctx.addr);
-                Span::At(n, start, inside)
-            }
-        },
-    }
+    let (off, m) = unsigned_at(s, at)?;
+    let (size, n) = unsigned_at(s, m)?;
+    let start = ctx.base.checked_add(off).ok_or(Fault::Sum)?;
+    let end = start.checked_add(size).ok_or(Fault::Sum)?;
+    Ok((n, start, contains(start, end, ctx.addr)))
 }
 
-// All ranges of a node. Its caller starts inside the bytes or at their end.
-fn ranges(s: &[u8], ctx: Ctx, count: u64, at: usize) -> Span
+// All ranges of a node: the place after them, the start of the first, and whether one of them contains the address. Its
+// caller starts inside the bytes or at their end.
+fn ranges(s: &[u8], ctx: Ctx, count: u64, at: usize) -> Result<(usize, u64, bool), Fault>
     requires { at ≤ length s.now }
     ensures { result ≡ spans_of ctx (ranges_at count s.now at) }
 {
-    let mut left = count;
     let mut to = at;
     let mut first = ctx.base;
     let mut inside = false;
-    while 0 < left {
-        match range(s, ctx, to) {
-            Span::Bad(f) => return Span::Bad(f),
-            Span::At(n, start, holds) => {
-                first = chosen(left == count, start, first);
-                inside = either(inside, holds);
-                to = n;
-                left -= 1;
-            }
+    for k in 0..count {
+        let (n, start, holds) = range(s, ctx, to)?;
+        if k == 0 {
+            first = start;
         }
+        inside = inside || holds;
+        to = n;
     }
-    Span::At(to, first, inside)
+    Ok((to, first, inside))
 }
 
-// What follows the ranges, in its order: the call file is judged before the call line is read. `tail_at` reads the same;
-// it would be a call for each node here, since nodes that are passed over take it too.
-fn judge_tail(s: &[u8], start: u64, inside: bool, at: usize) -> Seen
+// What follows the ranges, in its order: the call file is judged before the call line is read.
+fn judge_tail(s: &[u8], start: u64, inside: bool, at: usize) -> Result<Judged, Fault>
     ensures { result ≡ end_of start inside (tail_at s.now at) }
 {
-    match reads::u8_at(s, at) {
-        Read8::Unread => Seen::Bad(Fault::Unread(Cause::Short)),
-        Read8::Value(kids) => match reads::u32_at(s, at + 1) {
-            Read32::Unread => Seen::Bad(Fault::Unread(Cause::Short)),
-            Read32::Value(name) => match number_at(s, at + 5) {
-                Num::Bad(c) => Seen::Bad(Fault::Unread(c)),
-                Num::Value(read, m) => {
-                    if CALL_FILE_MAX < read {
-                        return Seen::Bad(Fault::CallFile);
-                    }
-                    let file = read as u32;
-                    match number_at(s, m) {
-                        Num::Bad(c) => Seen::Bad(Fault::Unread(c)),
-                        Num::Value(on, next) => {
-                            let line = capped(on);
-                            Seen::Node(Judged {
-                                next,
-                                base: start,
-                                inside,
-                                kids,
-                                name,
-                                file,
-                                line,
-                            })
-                        }
-                    }
-                }
-            },
-        },
+    let kids = reads::u8_at(s, at).ok_or(Cause::Short)?;
+    let name = reads::u32_at(s, at + 1).ok_or(Cause::Short)?;
+    let (file, m) = unsigned_at(s, at + 5)?;
+    if CALL_FILE_MAX < file {
+        return Err(Fault::CallFile);
     }
+    let (line, next) = unsigned_at(s, m)?;
+    Ok(Judged {
+        next,
+        base: start,
+        inside,
+        kids,
+        name,
+        file: file as u32,
+        line: capped(line),
+    })
+}
+
+// A node after its range count: its level, its ranges, and what follows them. Its caller starts inside the bytes or at
+// their end.
+fn judge_node(s: &[u8], ctx: Ctx, count: u64, at: usize) -> Result<Judged, Fault>
+    requires { at ≤ length s.now }
+    ensures { result ≡ node_of s.now ctx (ranges_at count s.now at) }
+{
+    if types::MAX_LEVEL < ctx.level {
+        return Err(Fault::Level);
+    }
+    let (m, start, inside) = ranges(s, ctx, count, at)?;
+    judge_tail(s, start, inside, m)
 }
 
 // The head at `at` of a node that is judged.
 pub(crate) fn judge_at(s: &[u8], ctx: Ctx, at: usize) -> Seen
     ensures { result ≡ seen_at s.now ctx at }
 {
-    match number_at(s, at) {
-        Num::Bad(c) => Seen::Bad(Fault::Unread(c)),
-        Num::Value(count, first) => {
+    match unsigned_at(s, at) {
+        Err(c) => Seen::Bad(Fault::Unread(c)),
+        Ok((count, first)) => {
             if count == 0 {
                 return Seen::End(first);
             }
-            if types::MAX_LEVEL < ctx.level {
-                return Seen::Bad(Fault::Level);
-            }
-            match ranges(s, ctx, count, first) {
-                Span::Bad(f) => Seen::Bad(f),
-                Span::At(m, start, inside) => judge_tail(s, start, inside, m),
+            match judge_node(s, ctx, count, first) {
+                Err(f) => Seen::Bad(f),
+                Ok(node) => Seen::Node(node),
             }
         }
     }

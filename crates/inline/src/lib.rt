@@ -11,10 +11,11 @@ mod skipping;
 mod walk;
 
 ghost use Rattle.std.specs.Prelude.{◌≡◌, ◌/◌, min};
-ghost use Rattle.inline.specs.Block.{node_no, fault_no, Lists};
+ghost use Rattle.inline.specs.Block.{fault_no, Lists};
 
-pub use head::{Cause, Fault, Head, NodeHead, head_at};
+pub use head::{Fault, Head, NodeHead, head_at};
 use judge::Ctx;
+pub use leb128::Cause;
 use types::Address;
 use walk::{FRAME_WIDTH, Walk, node};
 
@@ -26,22 +27,12 @@ pub struct Listed {
     pub count: usize,
 }
 
-// The refusal of inline bytes that don't read.
-fn node_number(cause: Cause) -> u8
-    ensures { result ≡ node_no cause }
-{
-    match cause {
-        Cause::Short => types::UNREAD_INLINE,
-        Cause::Wide => types::UNREAD_INLINE,
-    }
-}
-
 // The refusal's number of a fault.
 fn fault_number(fault: Fault) -> u8
     ensures { result ≡ fault_no fault }
 {
     match fault {
-        Fault::Unread(cause) => node_number(cause),
+        Fault::Unread(_) => types::UNREAD_INLINE,
         Fault::Sum => types::INLINE_SUM_TOO_LARGE,
         Fault::CallFile => types::CALL_FILE_TOO_LARGE,
         Fault::Level => types::TOO_DEEP,
@@ -53,11 +44,7 @@ fn fault_number(fault: Fault) -> u8
 fn room_in(len: usize) -> usize
     ensures { result ≡ min 64 (len / 3) }
 {
-    let frames = len / FRAME_WIDTH;
-    if types::MAX_FRAMES < frames {
-        return types::MAX_FRAMES;
-    }
-    frames
+    types::MAX_FRAMES.min(len / FRAME_WIDTH)
 }
 
 // The frames of one block at an address, for the symbol that the block belongs to: the nodes with a name other than 0
@@ -76,17 +63,13 @@ pub fn block_in(block: &[u8], symbol: Address, addr: Address, store: &mut [u32])
         room,
     };
     match node(block, ctx, 0, store, 0) {
-        Walk::End(_, count) => Listed {
+        Walk::End(_, count) | Walk::Past(_, count) => Listed {
             number: types::FOUND,
             count,
         },
-        Walk::Past(_, count) => Listed {
-            number: types::FOUND,
-            count,
+        Walk::Bad(fault) => Listed {
+            number: fault_number(fault),
+            count: 0,
         },
-        Walk::Bad(fault) => {
-            let number = fault_number(fault);
-            Listed { number, count: 0 }
-        }
     }
 }

@@ -11,13 +11,6 @@ pub(crate) enum Step {
     Bad(Fault),
 }
 
-// A whole list: the place after its end.
-#[derive(Clone, Copy)]
-pub(crate) enum Passed {
-    At(usize),
-    Bad(Fault),
-}
-
 // Passes over the node at `at` and all below it: it calls itself for each child, with fewer bytes left.
 pub(crate) fn skip(s: &[u8], level: usize, at: usize) -> Step
     ensures { Skipped s.now level at result }
@@ -42,16 +35,16 @@ pub(crate) fn skip(s: &[u8], level: usize, at: usize) -> Step
     }
 }
 
-// Passes over the list of nodes at `at`, up to its end.
-pub(crate) fn skip_all(s: &[u8], level: usize, at: usize) -> Passed
+// Passes over the list of nodes at `at`, up to its end: the place after it.
+pub(crate) fn skip_all(s: &[u8], level: usize, at: usize) -> Result<usize, Fault>
     ensures { SkippedAll s.now level at result }
 {
     let mut to = at;
     loop {
         match skip(s, level, to) {
-            Step::End(n) => return Passed::At(n),
+            Step::End(n) => return Ok(n),
             Step::Past(n) => to = n,
-            Step::Bad(f) => return Passed::Bad(f),
+            Step::Bad(f) => return Err(f),
         }
     }
 }

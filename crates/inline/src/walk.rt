@@ -5,17 +5,10 @@ ghost use Rattle.inline.specs.Walk.{frame_in, Pushed, Walked, WalkedAll};
 
 use super::head::Fault;
 use super::judge::{Ctx, Judged, Seen, judge_at};
-use super::skipping::{Passed, skip_all};
+use super::skipping::skip_all;
 
 // A frame takes three numbers of the store: name, call file, call line.
 pub(crate) const FRAME_WIDTH: usize = 3;
-
-// How many frames there are after one more.
-#[derive(Clone, Copy)]
-enum Held {
-    Full,
-    Now(usize),
-}
 
 // What reading judged nodes comes to: the list's end, or past a node and all below it, each with the place after it and
 // how many frames there are.
@@ -26,23 +19,23 @@ pub(crate) enum Walk {
     Bad(Fault),
 }
 
-// Makes the frame of an open node, after the `count` frames there are. A name of 0 makes none.
-fn push(ctx: Ctx, node: Judged, store: &mut [u32], count: usize) -> Held
+// Makes the frame of an open node, after the `count` frames there are: how many there are then, if there is room. A name
+// of 0 makes none.
+fn push(ctx: Ctx, node: Judged, store: &mut [u32], count: usize) -> Option<usize>
     requires { (count ≤ ctx.room) × (3 * ctx.room ≤ length store.old) }
     ensures { Pushed ctx (frame_in node) store.old count store.new result }
 {
     if node.name == 0 {
-        return Held::Now(count);
+        return Some(count);
     }
     if ctx.room <= count {
-        return Held::Full;
+        return None;
     }
     let place = FRAME_WIDTH * count;
     store[place] = node.name;
     store[place + 1] = node.file;
     store[place + 2] = node.line;
-    let more = count + 1;
-    Held::Now(more)
+    Some(count + 1)
 }
 
 // Reads the judged node at `at` and all below it. The store has room for the frames that `ctx` allows.
@@ -55,35 +48,27 @@ pub(crate) fn node(s: &[u8], ctx: Ctx, at: usize, store: &mut [u32], count: usiz
         Seen::End(n) => Walk::End(n, count),
         Seen::Bad(f) => Walk::Bad(f),
         Seen::Node(i) => {
-            let next = i.next;
-            let kids = i.kids;
-            if i.inside {
-                let base = i.base;
-                match push(ctx, i, store, count) {
-                    Held::Full => Walk::Bad(Fault::Room),
-                    Held::Now(c) => {
-                        if kids == 0 {
-                            return Walk::Past(next, c);
-                        }
-                        let level = ctx.level + 1;
-                        let down = Ctx {
-                            level,
-                            addr: ctx.addr,
-                            base,
-                            room: ctx.room,
-                        };
-                        children(s, down, next, store, c)
-                    }
+            if !i.inside {
+                if i.kids == 0 {
+                    return Walk::Past(i.next, count);
                 }
-            } else {
-                if kids == 0 {
-                    return Walk::Past(next, count);
-                }
-                match skip_all(s, ctx.level + 1, next) {
-                    Passed::At(n) => Walk::Past(n, count),
-                    Passed::Bad(f) => Walk::Bad(f),
-                }
+                return match skip_all(s, ctx.level + 1, i.next) {
+                    Ok(n) => Walk::Past(n, count),
+                    Err(f) => Walk::Bad(f),
+                };
             }
+            let Some(c) = push(ctx, i, store, count) else {
+                return Walk::Bad(Fault::Room);
+            };
+            if i.kids == 0 {
+                return Walk::Past(i.next, c);
+            }
+            let down = Ctx {
+                level: ctx.level + 1,
+                base: i.base,
+                ..ctx
+            };
+            children(s, down, i.next, store, c)
         }
     }
 }

@@ -1,6 +1,6 @@
 -- A signed number and its bits. A signed local holds bits, and a caller meets its number as `number_of (bits_of z)`.
 -- Assumes nothing.
-use Rattle.std.proofs.Common.{◌≡◌, ℕ, zero, suc, ◌+◌, ◌^◌, ◌<◌, ◌≤◌, ℤ, pos, negsuc, ◌-ℤ◌, ap, arith, w64, le-ltb, lt-ltb}
+use Rattle.std.proofs.Common.{◌≡◌, ℕ, ◌^◌, ◌<◌, ℤ, pos, negsuc, ap, arith, w64}
 use lib.Signed.{mag}
 use mir.ValLaws.{to_z-of_z, of_z-to_z, of_z_fits}
 use Rattle.int64.specs.Wrap.{number_of, bits_of}
@@ -15,11 +15,6 @@ bits_of_number b h = of_z-to_z w64 b (record { fits = h })
 
 pub bits-lt : (z : ℤ) → mag z < 2 ^ 63 → bits_of z < 2 ^ 64
 bits-lt z h = (of_z_fits w64 z (record { sfits = h })).fits
-
--- bits from 2^63 up say a number below 0: v - m, where b is 2^64 above it. (Below 2^63: the library's `to_z_pos w64`.)
-pub number-high : (b v m : ℕ) → 2 ^ 63 ≤ b → b < 2 ^ 64 → b + m ≡ 2 ^ 64 + v → number_of b ≡ pos v -ℤ pos m
-number-high b v zero h l e = absurd (omega arith)
-number-high b v (suc m) h l e = rw (le-ltb _ _ h, lt-ltb v (suc m) (omega arith)) (ap negsuc (omega arith))
 
 -- what the test `z == 0` tells where it held; where it failed, `ap bits_of` does it
 pub bits-zero : (z : ℤ) → mag z < 2 ^ 63 → bits_of z ≡ 0 → z ≡ pos 0

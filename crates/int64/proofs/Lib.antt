@@ -1,5 +1,2 @@
 pub mod Bits
 pub mod Wraps
-mod Complement
-mod Division
-mod Sums

@@ -84,17 +84,9 @@ mod_z-32-add-wrap x y = sym (mod_z-32 (x +ℤ wrap y)) ∙ ap (λ n. n % 2 ^ 32)
 pub add-bits : (x y : ℤ) → mag x < 2 ^ 64 → mag y < 2 ^ 64 → (bits_of x + bits_of y) % 2 ^ 64 ≡ mod_z (x +ℤ y) (2 ^ 64)
 add-bits x y hx hy = rw (mod_z-add x y, mod_z-bits x hx, mod_z-bits y hy)
 
--- of the second summand the low 32 bits suffice for the sum modulo 2^32
-pub add-bits-32 : (x : ℕ) (y : ℤ) → x < 2 ^ 32 → mag y < 2 ^ 64
-    → (x + bits_of y % 2 ^ 32) % 2 ^ 32 ≡ mod_z (pos x +ℤ y) (2 ^ 32)
-add-bits-32 x y hx hy =
-    let e : (x + bits_of y % 2 ^ 32) % 2 ^ 32 ≡ (x + bits_of y) % 2 ^ 64 % 2 ^ 32 = omega arith in
-    e ∙ ap (λ n. n % 2 ^ 32) (add-bits (pos x) y (omega arith) hy) ∙ mod_z-32 (pos x +ℤ y)
-
--- d, which y's bits bring back to x's, is the difference: `std::num` describes its subtraction so
-pub sub-bits : (x y : ℤ) (d : ℕ) → mag x < 2 ^ 63 → mag y < 2 ^ 63 → d < 2 ^ 64
-    → (d + bits_of y) % 2 ^ 64 ≡ bits_of x → d ≡ mod_z (x -ℤ y) (2 ^ 64)
-sub-bits x y d hx hy hd e =
+pub sub-bits : (x y : ℤ) → mag x < 2 ^ 63 → mag y < 2 ^ 63
+    → (bits_of x + (2 ^ 64 - bits_of y)) % 2 ^ 64 ≡ mod_z (x -ℤ y) (2 ^ 64)
+sub-bits x y hx hy =
     let ex = mod_z-bits x (omega arith) in
     let ey = mod_z-bits y (omega arith) in
     omega (arith, mod_z-add x (neg_ℤ y), mod_z-neg y, bits-lt x hx, bits-lt y hy)

@@ -10,44 +10,28 @@ ghost use Rattle.int64.specs.Wrap.{number_of, bits_of, mod_z, wrap};
 pub fn of_bits(b: u64) -> i64
     ensures { result ≡ number_of b }
 {
-    if b < 0x8000_0000_0000_0000 {
-        b as i64
-    } else {
-        let k = 0xffff_ffff_ffff_ffff - b;
-        let y = k as i64;
-        -1 - y
-    }
+    b.cast_signed()
 }
 
 // The bits of x in two's complement: x from 0 on, and x + 2^64 below.
 pub fn to_bits(x: i64) -> u64
     ensures { result ≡ bits_of x }
 {
-    if 0 <= x {
-        x as u64
-    } else {
-        let y = -1 - x;
-        let k = y as u64;
-        0xffff_ffff_ffff_ffff - k
-    }
+    x.cast_unsigned()
 }
 
 // x + y as a signed 64-bit number: 2^63 wraps to -2^63 (01, line table).
 pub fn wrapping_add(x: i64, y: i64) -> i64
     ensures { result ≡ wrap (x +ℤ y) }
 {
-    let a = to_bits(x);
-    let b = to_bits(y);
-    of_bits(std::num::wrapping_add_u64(a, b))
+    x.wrapping_add(y)
 }
 
 // x - y as a signed 64-bit number, which wraps likewise.
 pub fn wrapping_sub(x: i64, y: i64) -> i64
     ensures { result ≡ wrap (x -ℤ y) }
 {
-    let a = to_bits(x);
-    let b = to_bits(y);
-    of_bits(std::num::wrapping_sub_u64(a, b))
+    x.wrapping_sub(y)
 }
 
 // a divided by d, rounded toward zero, so that a negative d gives a negative quotient or 0 (01, line
@@ -78,13 +62,13 @@ pub fn rem(a: u8, d: i64) -> i64
 pub fn add_to_u64(x: u64, d: i64) -> u64
     ensures { result ≡ mod_z (pos x +ℤ d) (2 ^ 64) }
 {
-    std::num::wrapping_add_u64(x, to_bits(d))
+    x.wrapping_add_signed(d)
 }
 
 // x + d modulo 2^32, as lines wrap (01, line table). Of d only the low 32 bits count.
 pub fn add_to_u32(x: u32, d: i64) -> u32
     ensures { result ≡ mod_z (pos x +ℤ d) (2 ^ 32) }
 {
-    let low = (to_bits(d) % 0x1_0000_0000) as u32;
-    std::num::wrapping_add_u32(x, low)
+    let low = (d.cast_unsigned() % 0x1_0000_0000) as u32;
+    x.wrapping_add(low)
 }

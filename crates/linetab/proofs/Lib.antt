@@ -1,6 +1,5 @@
 mod Headers
 mod Opcodes
-mod Tables
 mod Factor
 mod Quickly
 pub mod Progress

@@ -1,18 +1,18 @@
 -- One opcode: a special one from what the calls on the way gave, and the choice by the opcode's number.
 -- Assumes nothing.
-use Rattle.std.proofs.Common.{◌≡◌, ℕ, zero, suc, ◌+◌, ◌-◌, ◌^◌, ◌<◌, ◌≤◌, List, length, get_or, ℤ, pos, negsuc, ◌+ℤ◌, ◌-ℤ◌, sym, refl, ap, ◌∙◌, le-ltb, lt-ltb, ne_eqb}
+use Rattle.std.proofs.Common.{◌≡◌, ℕ, zero, suc, ◌+◌, ◌-◌, ◌^◌, ◌<◌, ◌≤◌, List, length, get_or, ℤ, pos, negsuc, ◌+ℤ◌, ◌-ℤ◌, sym, refl, ap, ◌∙◌, le-ltb, lt-ltb, ne_eqb, Ok}
 use lib.Signed.{mag, quot_z, rem_z}
 use Rattle.int64.specs.Wrap.{number_of, bits_of, mod_z, wrap}
 use Rattle.int64.proofs.Bits.{number-of-bits, bits-zero}
 use Rattle.int64.proofs.Wraps.{wrap-wrap-add}
 use Rattle.leb128.specs.Answers.{unsigned_at, signed_at}
-use Rattle.leb128.specs.declared.Signed.TheVariants as z
 use Rattle.leb128.proofs.Taken.{signed-value-lt}
 use Rattle.linetab.specs.declared.LineTableHeader.{LineTableHeader}
 use Rattle.linetab.specs.declared.LineTableRow.{LineTableRow}
 use Rattle.linetab.specs.declared.LineState.{LineState}
 use Rattle.linetab.specs.declared.RunResult.{RunResult}
-use Rattle.linetab.specs.declared.RunResult.TheVariants.{Ok, NewRow, End, Stopped, UsedUp}
+use Rattle.linetab.specs.declared.RunResult.TheVariants as run
+use Rattle.linetab.specs.declared.RunResult.TheVariants.{NewRow, End, Stopped, UsedUp}
 use Rattle.linetab.specs.Machine.{
   state,
   set_file,
@@ -36,12 +36,12 @@ unless-zero (negsuc n) x h = refl
 -- ---- opcode 3
 
 pub line_read :
-    (s : List ℕ) (at n : ℕ) (r : LineTableRow) (d : ℤ) (line : ℕ) → z.Value d n ≡ signed_at s at →
+    (s : List ℕ) (at n : ℕ) (r : LineTableRow) (d : ℤ) (line : ℕ) → signed_at s at ≡ Ok (d, n) →
     line ≡ mod_z (pos r.file_line.0 +ℤ number_of (bits_of d)) (2 ^ 32) →
-    Ok (state r.addr.0 r.file_idx.0 line n) ≡ advance_line r (signed_at s at)
+    run.Ok (state r.addr.0 r.file_idx.0 line n) ≡ advance_line r (signed_at s at)
 unfolding advance_line
 line_read s at n r d line e q =
-    rw (q, number-of-bits d (signed-value-lt s at d n (sym e))) (ap (advance_line r) e)
+    rw (q, number-of-bits d (signed-value-lt s at d n e)) (ap (advance_line r) (sym e))
 
 -- ---- special opcodes: a signed local holds bits, which say its number again
 

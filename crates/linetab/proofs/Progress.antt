@@ -1,20 +1,17 @@
 -- Reading goes on, and stays within the bytes: an opcode's, and the header's.
 -- Assumes nothing.
-use Rattle.std.proofs.Common.{◌≡◌, ℕ, zero, suc, ◌+◌, ◌<◌, ◌≤◌, Bool, true, false, eqb, List, length, get_or, ℤ, pos, negsuc, refl, subst, ⊎_elim, arith, le-ltb, lt-ltb}
+use Rattle.std.proofs.Common.{◌≡◌, ℕ, zero, suc, ◌+◌, ◌<◌, ◌≤◌, Bool, true, false, eqb, List, length, get_or, ℤ, pos, negsuc, refl, ap, subst, ⊎_elim, arith, le-ltb, lt-ltb, Ok, Err, Result}
 use Rattle.reads.specs.Pick.{pick}
 use Rattle.std.proofs.lemmas.Bool.{cases_lt}
 use Rattle.leb128.specs.Answers.{unsigned_at, signed_at}
-use Rattle.leb128.specs.declared.Unsigned.{Unsigned}
-use Rattle.leb128.specs.declared.Unsigned.TheVariants as u
-use Rattle.leb128.specs.declared.Signed.{Signed}
-use Rattle.leb128.specs.declared.Signed.TheVariants as z
+use Rattle.leb128.specs.declared.Cause.{Cause}
 use Rattle.leb128.proofs.Taken.{unsigned-next, signed-next}
 use Rattle.linetab.specs.declared.LineTableHeader.{LineTableHeader}
 use Rattle.linetab.specs.declared.LineTableRow.{LineTableRow}
 use Rattle.linetab.specs.declared.LineState.{LineState}
-use Rattle.linetab.specs.declared.HeaderRead.TheVariants.{Is}
 use Rattle.linetab.specs.declared.RunResult.{RunResult}
-use Rattle.linetab.specs.declared.RunResult.TheVariants.{Ok, NewRow, End, Stopped, UsedUp}
+use Rattle.linetab.specs.declared.RunResult.TheVariants as run
+use Rattle.linetab.specs.declared.RunResult.TheVariants.{NewRow, End, Stopped, UsedUp}
 use Rattle.linetab.specs.Machine.{
   header_with_first,
   header_with_max,
@@ -41,7 +38,7 @@ Onward at len n = (at < n) × (n ≤ len)
 
 -- where an opcode at `at` of `len` bytes leads
 abbrev pub Ahead : ℕ → ℕ → RunResult → Type 0
-Ahead at len (Ok t) = Onward at len t.at
+Ahead at len (run.Ok t) = Onward at len t.at
 Ahead at len (NewRow t) = Onward at len t.at
 Ahead at len (End n) = Onward at len n
 Ahead at len Stopped = at < len
@@ -60,24 +57,26 @@ module _ (at len : ℕ) (l : at < len) where
   range-ahead (negsuc n) x p = p
 
   module _ (r : LineTableRow) where
-    file-ahead : (x : Unsigned) → ((v n : ℕ) → x ≡ u.Value v n → Onward (at + 1) len n) → Ahead at len (set_file r x)
+    file-ahead :
+        (x : Result (ℕ × ℕ) Cause) → ((v n : ℕ) → x ≡ Ok (v, n) → Onward (at + 1) len n) →
+        Ahead at len (set_file r x)
     unfolding set_file
-    file-ahead (u.Value v n) p = let q = p v n refl in (omega arith, q.1)
-    file-ahead u.Short p = l
-    file-ahead u.Wide p = l
+    file-ahead (Ok (v, n)) p = let q = p v n refl in (omega arith, q.1)
+    file-ahead (Err e) p = l
 
-    pc-ahead : (x : Unsigned) → ((v n : ℕ) → x ≡ u.Value v n → Onward (at + 1) len n) → Ahead at len (advance_pc r x)
+    pc-ahead :
+        (x : Result (ℕ × ℕ) Cause) → ((v n : ℕ) → x ≡ Ok (v, n) → Onward (at + 1) len n) →
+        Ahead at len (advance_pc r x)
     unfolding advance_pc
-    pc-ahead (u.Value v n) p = let q = p v n refl in (omega arith, q.1)
-    pc-ahead u.Short p = l
-    pc-ahead u.Wide p = l
+    pc-ahead (Ok (v, n)) p = let q = p v n refl in (omega arith, q.1)
+    pc-ahead (Err e) p = l
 
     line-ahead :
-        (x : Signed) → ((v : ℤ) (n : ℕ) → x ≡ z.Value v n → Onward (at + 1) len n) → Ahead at len (advance_line r x)
+        (x : Result (ℤ × ℕ) Cause) → ((v : ℤ) (n : ℕ) → x ≡ Ok (v, n) → Onward (at + 1) len n) →
+        Ahead at len (advance_line r x)
     unfolding advance_line
-    line-ahead (z.Value v n) p = let q = p v n refl in (omega arith, q.1)
-    line-ahead z.Short p = l
-    line-ahead z.Wide p = l
+    line-ahead (Ok (v, n)) p = let q = p v n refl in (omega arith, q.1)
+    line-ahead (Err e) p = l
 
 module _ (h : LineTableHeader) (ops : List ℕ) where
   opcode-ahead :
@@ -101,7 +100,7 @@ module _ (h : LineTableHeader) (ops : List ℕ) where
         (λ (l : length ops ≤ t.at). rw (le-ltb _ _ l) l)
         (cases_lt t.at (length ops))
 
-    pub ok-ahead : (q : LineState) → step_of h ops t ≡ Ok q → Onward t.at (length ops) q.at
+    pub ok-ahead : (q : LineState) → step_of h ops t ≡ run.Ok q → Onward t.at (length ops) q.at
     ok-ahead q e = subst (Ahead t.at (length ops)) e step-ahead
 
     pub row-ahead : (q : LineState) → step_of h ops t ≡ NewRow q → Onward t.at (length ops) q.at
@@ -112,37 +111,42 @@ module _ (h : LineTableHeader) (ops : List ℕ) where
 
 -- ---- the header
 
+-- the place after a header that reads
+abbrev place : Result (LineTableHeader × ℕ) Cause → ℕ
+place (Ok (h, n)) = n
+place (Err c) = 0
+
 module _ (s : List ℕ) (h : LineTableHeader) (n : ℕ) where
   first_next :
-      (at : ℕ) (min max : ℤ) (x : Unsigned) → ((v m : ℕ) → x ≡ u.Value v m → Onward at (length s) m) →
-      header_with_first min max x ≡ Is h n → Onward at (length s) n
+      (at : ℕ) (min max : ℤ) (x : Result (ℕ × ℕ) Cause) → ((v m : ℕ) → x ≡ Ok (v, m) → Onward at (length s) m) →
+      header_with_first min max x ≡ Ok (h, n) → Onward at (length s) n
   unfolding header_with_first
-  first_next at min max (u.Value v m) p e = let q : m ≡ n = cc in let o = p v m refl in (omega arith, omega arith)
-  first_next at min max u.Short p e = never (cc)
-  first_next at min max u.Wide p e = never (cc)
+  first_next at min max (Ok (v, m)) p e =
+      let q : m ≡ n = ap place e in
+      let o = p v m refl in
+      (omega arith, omega arith)
+  first_next at min max (Err d) p e = never (cc)
 
   max-next :
-      (at : ℕ) (min : ℤ) (x : Signed) → ((v : ℤ) (m : ℕ) → x ≡ z.Value v m → Onward at (length s) m) →
-      header_with_max s min x ≡ Is h n → Onward at (length s) n
+      (at : ℕ) (min : ℤ) (x : Result (ℤ × ℕ) Cause) → ((v : ℤ) (m : ℕ) → x ≡ Ok (v, m) → Onward at (length s) m) →
+      header_with_max s min x ≡ Ok (h, n) → Onward at (length s) n
   unfolding header_with_max
-  max-next at min (z.Value v m) p e =
+  max-next at min (Ok (v, m)) p e =
       let o = p v m refl in
       let f = first_next m min v (unsigned_at s m) (unsigned-next s m) e in
       (omega arith, f.1)
-  max-next at min z.Short p e = never (cc)
-  max-next at min z.Wide p e = never (cc)
+  max-next at min (Err d) p e = never (cc)
 
   min-next :
-      (at : ℕ) (x : Signed) → ((v : ℤ) (m : ℕ) → x ≡ z.Value v m → Onward at (length s) m) →
-      header_with_min s x ≡ Is h n → Onward at (length s) n
+      (at : ℕ) (x : Result (ℤ × ℕ) Cause) → ((v : ℤ) (m : ℕ) → x ≡ Ok (v, m) → Onward at (length s) m) →
+      header_with_min s x ≡ Ok (h, n) → Onward at (length s) n
   unfolding header_with_min
-  min-next at (z.Value v m) p e =
+  min-next at (Ok (v, m)) p e =
       let o = p v m refl in
       let f = max-next m v (signed_at s m) (signed-next s m) e in
       (omega arith, f.1)
-  min-next at z.Short p e = never (cc)
-  min-next at z.Wide p e = never (cc)
+  min-next at (Err d) p e = never (cc)
 
-  pub header-next : (at : ℕ) → header_of s at ≡ Is h n → Onward at (length s) n
+  pub header-next : (at : ℕ) → header_of s at ≡ Ok (h, n) → Onward at (length s) n
   unfolding header_of
   header-next at e = min-next at (signed_at s at) (signed-next s at) e

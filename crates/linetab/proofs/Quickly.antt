@@ -1,98 +1,44 @@
 -- The quick form of the run: what its steps say of the run follows from the opcodes of `step_of`.
 -- Assumes nothing.
-use Rattle.std.proofs.Common.{◌≡◌, ℕ, ◌+◌, ◌-◌, ◌*◌, ◌/◌, ◌%◌, ◌^◌, ◌<◌, ◌≤◌, Bool, List, length, get_or, ℤ, pos, negsuc, ◌+ℤ◌, sym, refl, ap, ◌∙◌, subst, arith, le-ltb, lt-ltb}
+use Rattle.std.proofs.Common.{◌≡◌, ℕ, ◌+◌, ◌-◌, ◌*◌, ◌/◌, ◌%◌, ◌^◌, ◌<◌, ◌≤◌, Bool, List, length, get_or, ℤ, pos, negsuc, ◌+ℤ◌, sym, ap, ◌∙◌, arith, le-ltb, lt-ltb, Some, None, Option}
 use lib.Signed.{mag}
 use Rattle.reads.specs.Pick.{pick}
 use Rattle.int64.specs.Wrap.{number_of, bits_of, mod_z, wrap}
 use Rattle.int64.proofs.Bits.{number-of-bits}
 use Rattle.int64.proofs.Wraps.{mod_z-lt, mod_z-add, mod_z-32, mod_z-bits, mod_z-32-add-wrap}
-use Rattle.leb128.specs.Answers.{unsigned_at, signed_at}
-use Rattle.leb128.specs.declared.Unsigned.TheVariants as u
-use Rattle.leb128.specs.declared.Signed.TheVariants as z
-use Rattle.leb128.proofs.Taken.{unsigned-next, signed-next}
 use Rattle.types.specs.declared.Address.{Address}
 use Rattle.linetab.specs.declared.LineTableHeader.{LineTableHeader}
 use Rattle.linetab.specs.declared.LineTableRow.{LineTableRow}
 use Rattle.linetab.specs.declared.LineState.{LineState}
-use Rattle.linetab.specs.declared.RowFound.{RowFound}
-use Rattle.linetab.specs.declared.RowFound.TheVariants.{Row, Nothing}
+use Rattle.linetab.specs.declared.RunResult.TheVariants as run
 use Rattle.linetab.specs.declared.RunResult.TheVariants.{NewRow}
 use Rattle.linetab.specs.declared.quick.Plan.{Plan}
-use Rattle.linetab.specs.declared.quick.Lead.{Lead}
-use Rattle.linetab.specs.declared.quick.Lead.TheVariants.{Made, Unsure}
-use Rattle.linetab.specs.declared.quick.Change.{Change}
-use Rattle.linetab.specs.declared.quick.Change.TheVariants.{To}
-use Rattle.linetab.specs.Machine.{state, set_file, advance_pc, range_of, moved, special_of, step_of}
+use Rattle.linetab.specs.Machine.{state, range_of, moved, special_of, step_of}
 use Rattle.linetab.specs.Rows.{row_from, row_for}
-use Rattle.linetab.specs.Quick.{Suits, row_before, Keeps, FileTo, LineTo, Leads}
+use Rattle.linetab.specs.Quick.{Suits, row_before, Keeps, Kept, Leads}
 use Rattle.linetab.proofs.Factor.{product_small, quotient, quotient-back}
-use Rattle.linetab.proofs.Opcodes.{unless-zero, line_read, is-file, is-pc, is-line, is_special}
-use Rattle.linetab.proofs.Progress.{row-ahead}
+use Rattle.linetab.proofs.Opcodes.{unless-zero, is_special}
+use Rattle.linetab.proofs.Progress.{ok-ahead, row-ahead}
 use Rattle.linetab.proofs.Runs.{on-ok, on-made}
 
 -- ---- steps put together
 
+-- an opcode that makes no row, whatever the header is
+pub step_kept :
+    (ops : List ℕ) (t q : LineState) → ((h : LineTableHeader) → step_of h ops t ≡ run.Ok q) → Kept ops t (Some q)
+step_kept ops t q e =
+    let any : LineTableHeader = record { min_delta = pos 0; max_delta = pos 0; first_line = record { 0 = 0 } } in
+    (omega (arith, ok-ahead any ops t q (e any)), λ h a b. on-ok h ops a b t q (e h))
+
 module _ (h : LineTableHeader) (ops : List ℕ) (t : LineState) where
-  pub made-leads : (a f l n : ℕ) → step_of h ops t ≡ NewRow (state a f l n) → Leads h ops t (Made a f l n)
-  made-leads a f l n e =
-      let o = row-ahead h ops t (state a f l n) e in
-      (o.0, o.1, λ addr b. on-made h ops addr b t (state a f l n) e)
+  pub made-leads : (q : LineState) → step_of h ops t ≡ NewRow q → Leads h ops t (Some q)
+  made-leads q e =
+      let o = row-ahead h ops t q e in
+      (o.0, o.1, λ addr b. on-made h ops addr b t q e)
 
-  pub keeps-leads : (q : LineState) (r : Lead) → Keeps ops t q → Leads h ops q r → Leads h ops t r
-  keeps-leads q (Made a f l n) k x = (omega (arith, k.0, x.0), x.1, λ addr b. k.1 h addr b ∙ x.2 addr b)
-  keeps-leads q Unsure k x = tt
-
--- ---- changes of the file and of the line
-
-module _ (ops : List ℕ) (at : ℕ) where
-  pub file-stays : (file : ℕ) → FileTo ops at file (To file at)
-  file-stays file addr line = (omega arith, λ h a b. refl)
-
-  pub line_stays : (line : ℕ) → LineTo ops at line (To line at)
-  line_stays line addr file = (omega arith, λ h a b. refl)
-
-  module _ (l : at < length ops) where
-    pub file-set :
-        (file v n : ℕ) → get_or ops at 0 ≡ 1 → u.Value v n ≡ unsigned_at ops (at + 1) →
-        FileTo ops at file (To (v % 2 ^ 32) n)
-    unfolding set_file
-    file-set file v n e r addr line = (
-      omega (arith, unsigned-next ops (at + 1) v n (sym r)),
-      λ h a b.
-          on-ok h ops a b (state addr file line at) (state addr (v % 2 ^ 32) line n)
-          (sym (ap (set_file (state addr file line at).row) r ∙ is-file h ops (state addr file line at) l e)),
-    )
-
-    pub line-moved :
-        (line : ℕ) (d : ℤ) (on n : ℕ) → get_or ops at 0 ≡ 3 → z.Value d n ≡ signed_at ops (at + 1) →
-        on ≡ mod_z (pos line +ℤ number_of (bits_of d)) (2 ^ 32) → LineTo ops at line (To on n)
-    line-moved line d on n e r q addr file = (
-      omega (arith, signed-next ops (at + 1) d n (sym r)),
-      λ h a b.
-          let t = state addr file line at in
-          on-ok h ops a b t (state addr file on n)
-          (sym (line_read ops (at + 1) n t.row d on r q ∙ is-line h ops t l e)),
-    )
-
-    pub pc-made :
-        (addr file line v n to : ℕ) → get_or ops at 0 ≡ 2 → u.Value v n ≡ unsigned_at ops (at + 1) →
-        to ≡ (addr + v) % 2 ^ 64 → (h : LineTableHeader) → Leads h ops (state addr file line at) (Made to file line n)
-    unfolding advance_pc
-    pc-made addr file line v n to e r q h =
-        let t = state addr file line at in
-        made-leads h ops t to file line n
-        (sym (ap (λ x. NewRow (state x file line n)) q ∙ ap (advance_pc t.row) r ∙ is-pc h ops t l e))
-
-module _ (h : LineTableHeader) (ops : List ℕ) (at addr file line : ℕ) (r : Change) (v n : ℕ) (x : Lead) where
-  pub after-file :
-      FileTo ops at file r → r ≡ To v n → Leads h ops (state addr v line n) x →
-      Leads h ops (state addr file line at) x
-  after-file k e y = keeps-leads h ops _ (state addr v line n) x (subst (FileTo ops at file) e k addr line) y
-
-  pub after-line :
-      LineTo ops at line r → r ≡ To v n → Leads h ops (state addr file v n) x →
-      Leads h ops (state addr file line at) x
-  after-line k e y = keeps-leads h ops _ (state addr file v n) x (subst (LineTo ops at line) e k addr file) y
+  pub keeps-leads : (q : LineState) (r : Option LineState) → Keeps ops t q → Leads h ops q r → Leads h ops t r
+  keeps-leads q (Some v) k x = (omega (arith, k.0, x.0), x.1, λ addr b. k.1 h addr b ∙ x.2 addr b)
+  keeps-leads q None k x = tt
 
 -- ---- special opcodes
 
@@ -151,11 +97,11 @@ module _ (h : LineTableHeader) (p : Plan) (s : Suits h p) where
       let a = get_or ops at 0 - 4 in
       let steps = a * p.factor / 65536 in
       to ≡ (addr + steps) % 2 ^ 64 → on ≡ (line + p.low + (a - steps * p.range)) % 2 ^ 32 →
-      Leads h ops (state addr file line at) (Made to file on (at + 1))
+      Leads h ops (state addr file line at) (Some (state to file on (at + 1)))
   special-made ops at addr file line to on l above byte eT eL =
       let t = state addr file line at in
       let a = get_or ops at 0 - 4 in
-      made-leads h ops t to file on (at + 1)
+      made-leads h ops t (state to file on (at + 1))
       (sym
       (special-is addr file line a (at + 1) to on
       (eT ∙ ap (λ x. (addr + x) % 2 ^ 64) (steps-are a (omega arith)))
@@ -186,11 +132,11 @@ suited h fM range p fR eR eD some few eF eL =
 -- ---- the run, where the state is the last row made
 
 module _ (start : ℕ) (t : LineState) where
-  pub before-some : (r : LineTableRow) → r ≡ t.row → start < t.at → Row r ≡ row_before start t
-  before-some r e l = ap Row e ∙ ap (λ y. pick y (Row t.row) Nothing) (sym (lt-ltb start t.at l))
+  pub before-some : start < t.at → Some t.row ≡ row_before start t
+  before-some l = ap (λ y. pick y (Some t.row) None) (sym (lt-ltb start t.at l))
 
-  pub before-none : t.at ≤ start → Nothing ≡ row_before start t
-  before-none l = ap (λ y. pick y (Row t.row) Nothing) (sym (le-ltb start t.at l))
+  pub before-none : t.at ≤ start → None ≡ row_before start t
+  before-none l = ap (λ y. pick y (Some t.row) None) (sym (le-ltb start t.at l))
 
 -- the answer from the start is the one from t on
 abbrev pub Here : LineTableHeader → List ℕ → Address → LineState → LineState → Type 0
@@ -204,34 +150,25 @@ module _ (h : LineTableHeader) (ops : List ℕ) (addr : Address) (start : LineSt
 
   module _ (t : LineState) (i : Here h ops addr start t) where
     pub from-here :
-        (b : RowFound) (r : LineTableRow) (f : RowFound) → b ≡ row_before start.at t → r ≡ t.row →
-        f ≡ row_from h ops addr b (record { row = r; at = t.at }) → f ≡ row_for h ops start addr
-    from-here b r f eB eR e =
-        e
-        ∙ ap (λ y. row_from h ops addr y (record { row = r; at = t.at })) eB
-        ∙ ap (λ y. row_from h ops addr (row_before start.at t) (record { row = y; at = t.at })) eR
-        ∙ sym i.1
+        (b f : Option LineTableRow) → b ≡ row_before start.at t → f ≡ row_from h ops addr b t →
+        f ≡ row_for h ops start addr
+    from-here b f eB e = e ∙ ap (λ y. row_from h ops addr y t) eB ∙ sym i.1
 
-    module _ (x : Lead) (k : Leads h ops t x) (a f l n : ℕ) (e : x ≡ Made a f l n) where
-      leads : Leads h ops t (Made a f l n)
-      leads = subst (Leads h ops t) e k
+    module _ (q : LineState) (k : Leads h ops t (Some q)) where
+      abbrev chosen : Bool → Option LineTableRow
+      chosen y = pick y (row_before start.at t) (row_from h ops addr (Some q.row) q)
 
-      pub row_on : (t.at < n) × (n ≤ length ops)
-      row_on = (leads.0, leads.1)
+      pub row-above :
+          (r : Option LineTableRow) → r ≡ row_before start.at t → addr.0 < q.row.addr.0 →
+          r ≡ row_for h ops start addr
+      row-above r e p = e ∙ sym (i.1 ∙ k.2 addr (row_before start.at t) ∙ ap chosen (lt-ltb addr.0 q.row.addr.0 p))
 
-      abbrev chosen : Bool → RowFound
-      chosen y = pick y (row_before start.at t) (row_from h ops addr (Row (state a f l n).row) (state a f l n))
-
-      pub row-above : (r : RowFound) → r ≡ row_before start.at t → addr.0 < a → r ≡ row_for h ops start addr
-      row-above r q p = q ∙ sym (i.1 ∙ leads.2 addr (row_before start.at t) ∙ ap chosen (lt-ltb addr.0 a p))
-
-      pub row_below : a ≤ addr.0 → Here h ops addr start (state a f l n)
+      pub row_below : q.row.addr.0 ≤ addr.0 → Here h ops addr start q
       row_below p =
-          let on : start.at < n = omega (arith, i.0, leads.0) in (
+          let on : start.at < q.at = omega (arith, i.0, k.0) in (
             omega arith,
             i.1
-                ∙ leads.2 addr (row_before start.at t)
-                ∙ ap chosen (le-ltb addr.0 a p)
-                ∙ ap (λ y. row_from h ops addr y (state a f l n))
-                (before-some start.at (state a f l n) (state a f l n).row refl on),
+                ∙ k.2 addr (row_before start.at t)
+                ∙ ap chosen (le-ltb addr.0 q.row.addr.0 p)
+                ∙ ap (λ y. row_from h ops addr y q) (before-some start.at q on),
           )

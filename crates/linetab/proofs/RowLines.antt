@@ -1,31 +1,23 @@
 -- The line of a row is below 2^32: the machine keeps it modulo that.
 -- Assumes nothing.
-use Rattle.std.proofs.Common.{ℕ, zero, suc, ◌-◌, ◌^◌, ◌<◌, Bool, true, false, eqb, ltb, List, length, get_or, ℤ, pos, negsuc, ◌+ℤ◌, arith}
+use Rattle.std.proofs.Common.{ℕ, zero, suc, ◌-◌, ◌^◌, ◌<◌, Bool, true, false, eqb, ltb, List, length, get_or, ℤ, pos, negsuc, ◌+ℤ◌, arith, Some, None, Option, Ok, Err, Result}
 use lib.Signed.{rem_z}
 use Rattle.reads.specs.Pick.{pick}
 use Rattle.int64.specs.Wrap.{wrap}
 use Rattle.int64.proofs.Wraps.{mod_z-lt}
 use Rattle.types.specs.declared.Address.{Address}
 use Rattle.leb128.specs.Answers.{unsigned_at, signed_at}
-use Rattle.leb128.specs.declared.Unsigned.{Unsigned}
-use Rattle.leb128.specs.declared.Unsigned.TheVariants as u
-use Rattle.leb128.specs.declared.Signed.{Signed}
-use Rattle.leb128.specs.declared.Signed.TheVariants as z
+use Rattle.leb128.specs.declared.Cause.{Cause}
 use Rattle.linetab.specs.declared.LineTableHeader.{LineTableHeader}
 use Rattle.linetab.specs.declared.LineTableRow.{LineTableRow}
 use Rattle.linetab.specs.declared.LineState.{LineState}
-use Rattle.linetab.specs.declared.HeaderRead.{HeaderRead}
-use Rattle.linetab.specs.declared.HeaderRead.TheVariants as header
 use Rattle.linetab.specs.declared.RunResult.{RunResult}
-use Rattle.linetab.specs.declared.RunResult.TheVariants.{Ok, NewRow, End, Stopped, UsedUp}
-use Rattle.linetab.specs.declared.RowFound.{RowFound}
-use Rattle.linetab.specs.declared.RowFound.TheVariants.{Row, Nothing}
-use Rattle.linetab.specs.declared.LineRead.{LineRead}
-use Rattle.linetab.specs.declared.LineRead.TheVariants as read
+use Rattle.linetab.specs.declared.RunResult.TheVariants as run
+use Rattle.linetab.specs.declared.RunResult.TheVariants.{NewRow, End, Stopped, UsedUp}
 use Rattle.linetab.specs.Machine.{header_with_first, header_with_max, header_with_min, header_of, start_row, set_file}
 use Rattle.linetab.specs.Machine.{advance_pc}
 use Rattle.linetab.specs.Machine.{advance_line, range_of, moved, unless_zero, special_of, opcode, step_of}
-use Rattle.linetab.specs.Rows.{at_end, after, within, row_from, row_for, found, behind, line_row}
+use Rattle.linetab.specs.Rows.{at_end, after, within, row_from, row_for, behind, line_row}
 
 -- ---- what is below 2^32
 
@@ -33,26 +25,24 @@ abbrev Small : LineTableRow → Type 0
 Small r = r.file_line.0 < 2 ^ 32
 
 abbrev StepSmall : RunResult → Type 0
-StepSmall (Ok t) = Small t.row
+StepSmall (run.Ok t) = Small t.row
 StepSmall (NewRow t) = Small t.row
 StepSmall (End n) = Unit {0}
 StepSmall Stopped = Unit {0}
 StepSmall UsedUp = Unit {0}
 
-abbrev FoundSmall : RowFound → Type 0
-FoundSmall (Row r) = Small r
-FoundSmall Nothing = Unit {0}
+abbrev FoundSmall : Option LineTableRow → Type 0
+FoundSmall (Some r) = Small r
+FoundSmall None = Unit {0}
 
-abbrev pub ReadSmall : LineRead → Type 0
-ReadSmall (read.Row r) = Small r
-ReadSmall read.Nothing = Unit {0}
-ReadSmall read.Short = Unit {0}
-ReadSmall read.Wide = Unit {0}
+abbrev pub ReadSmall : Result (Option LineTableRow) Cause → Type 0
+ReadSmall (Ok (Some r)) = Small r
+ReadSmall (Ok None) = Unit {0}
+ReadSmall (Err c) = Unit {0}
 
-abbrev HeaderSmall : HeaderRead → Type 0
-HeaderSmall (header.Is h n) = h.first_line.0 < 2 ^ 32
-HeaderSmall header.Short = Unit {0}
-HeaderSmall header.Wide = Unit {0}
+abbrev HeaderSmall : Result (LineTableHeader × ℕ) Cause → Type 0
+HeaderSmall (Ok (h, n)) = h.first_line.0 < 2 ^ 32
+HeaderSmall (Err c) = Unit {0}
 
 -- what holds of both ways holds of a choice
 picked : {A : Type 0} (P : A → Type 0) (t : Bool) (x y : A) → P x → P y → P (pick t x y)
@@ -61,23 +51,20 @@ picked P false x y p q = q
 
 -- ---- the header
 
-with_first : (min max : ℤ) (x : Unsigned) → HeaderSmall (header_with_first min max x)
+with_first : (min max : ℤ) (x : Result (ℕ × ℕ) Cause) → HeaderSmall (header_with_first min max x)
 unfolding header_with_first
-with_first min max (u.Value v n) = omega arith
-with_first min max u.Short = tt
-with_first min max u.Wide = tt
+with_first min max (Ok (v, n)) = omega arith
+with_first min max (Err c) = tt
 
-with_max : (s : List ℕ) (min : ℤ) (x : Signed) → HeaderSmall (header_with_max s min x)
+with_max : (s : List ℕ) (min : ℤ) (x : Result (ℤ × ℕ) Cause) → HeaderSmall (header_with_max s min x)
 unfolding header_with_max
-with_max s min (z.Value max n) = with_first min max (unsigned_at s n)
-with_max s min z.Short = tt
-with_max s min z.Wide = tt
+with_max s min (Ok (max, n)) = with_first min max (unsigned_at s n)
+with_max s min (Err c) = tt
 
-with_min : (s : List ℕ) (x : Signed) → HeaderSmall (header_with_min s x)
+with_min : (s : List ℕ) (x : Result (ℤ × ℕ) Cause) → HeaderSmall (header_with_min s x)
 unfolding header_with_min
-with_min s (z.Value min n) = with_max s min (signed_at s n)
-with_min s z.Short = tt
-with_min s z.Wide = tt
+with_min s (Ok (min, n)) = with_max s min (signed_at s n)
+with_min s (Err c) = tt
 
 header-small : (s : List ℕ) (at : ℕ) → HeaderSmall (header_of s at)
 unfolding header_of
@@ -86,23 +73,20 @@ header-small s at = with_min s (signed_at s at)
 -- ---- one opcode
 
 module _ (h : LineTableHeader) (ops : List ℕ) (r : LineTableRow) (l : Small r) where
-  file-small : (x : Unsigned) → StepSmall (set_file r x)
+  file-small : (x : Result (ℕ × ℕ) Cause) → StepSmall (set_file r x)
   unfolding set_file
-  file-small (u.Value v n) = l
-  file-small u.Short = tt
-  file-small u.Wide = tt
+  file-small (Ok (v, n)) = l
+  file-small (Err c) = tt
 
-  pc-small : (x : Unsigned) → StepSmall (advance_pc r x)
+  pc-small : (x : Result (ℕ × ℕ) Cause) → StepSmall (advance_pc r x)
   unfolding advance_pc
-  pc-small (u.Value v n) = l
-  pc-small u.Short = tt
-  pc-small u.Wide = tt
+  pc-small (Ok (v, n)) = l
+  pc-small (Err c) = tt
 
-  line_small : (x : Signed) → StepSmall (advance_line r x)
+  line_small : (x : Result (ℤ × ℕ) Cause) → StepSmall (advance_line r x)
   unfolding advance_line
-  line_small (z.Value d n) = mod_z-lt (pos r.file_line.0 +ℤ d) (2 ^ 32) (omega arith)
-  line_small z.Short = tt
-  line_small z.Wide = tt
+  line_small (Ok (d, n)) = mod_z-lt (pos r.file_line.0 +ℤ d) (2 ^ 32) (omega arith)
+  line_small (Err c) = tt
 
   moved-small : (a : ℕ) (range : ℤ) (n : ℕ) → Small (moved h r a range n).row
   unfolding moved
@@ -133,40 +117,42 @@ step_small h ops t l =
 
 -- ---- a whole program
 
-end-small : (before : RowFound) (r : LineTableRow) → Small r → FoundSmall (at_end before r)
-end-small (Row q) r l = l
-end-small Nothing r l = tt
+end-small : (before : Option LineTableRow) (r : LineTableRow) → Small r → FoundSmall (at_end before r)
+end-small (Some q) r l = l
+end-small None r l = tt
 
 within-small :
-    (k : ℕ) (h : LineTableHeader) (ops : List ℕ) (addr : Address) (before : RowFound) (t : LineState) →
+    (k : ℕ) (h : LineTableHeader) (ops : List ℕ) (addr : Address) (before : Option LineTableRow) (t : LineState) →
     FoundSmall before → Small t.row → FoundSmall (within k h ops addr before t)
 unfolding within
 within-small zero h ops addr before t b l = tt
 within-small (suc k) h ops addr before t b l = go (within-small k h ops addr) (step_of h ops t) (step_small h ops t l)
   where
-    go : ((b : RowFound) (q : LineState) → FoundSmall b → Small q.row → FoundSmall (within k h ops addr b q)) →
+    go :
+        ((b : Option LineTableRow) (q : LineState) → FoundSmall b → Small q.row →
+        FoundSmall (within k h ops addr b q)) →
         (x : RunResult) → StepSmall x →
         FoundSmall (after (λ b q. within k h ops addr b q) addr before t.row x)
-    go rest (Ok q) s = rest before q b s
+    go rest (run.Ok q) s = rest before q b s
     go rest (NewRow q) s =
-        picked FoundSmall (ltb addr.0 q.row.addr.0) _ _ b (rest (Row q.row) q s s)
+        picked FoundSmall (ltb addr.0 q.row.addr.0) _ _ b (rest (Some q.row) q s s)
     go rest (End n) s = end-small before t.row l
     go rest Stopped s = end-small before t.row l
     go rest UsedUp s = end-small before t.row l
 
-read_small : (x : RowFound) → FoundSmall x → ReadSmall (found x)
-read_small (Row r) l = l
-read_small Nothing l = tt
+read_small : (x : Option LineTableRow) → FoundSmall x → ReadSmall (Ok x)
+read_small (Some r) l = l
+read_small None l = tt
 
-behind-small : (s : List ℕ) (symbol addr : Address) (x : HeaderRead) → HeaderSmall x
-    → ReadSmall (behind s symbol addr x)
+behind-small :
+    (s : List ℕ) (symbol addr : Address) (x : Result (LineTableHeader × ℕ) Cause) → HeaderSmall x →
+    ReadSmall (behind s symbol addr x)
 unfolding row_for row_from
-behind-small s symbol addr (header.Is h n) l =
+behind-small s symbol addr (Ok (h, n)) l =
     let t : LineState = record { row = start_row h symbol; at = n } in
-    read_small (within (suc (length s - n)) h s addr Nothing t)
-    (within-small (suc (length s - n)) h s addr Nothing t tt l)
-behind-small s symbol addr header.Short l = tt
-behind-small s symbol addr header.Wide l = tt
+    read_small (within (suc (length s - n)) h s addr None t)
+    (within-small (suc (length s - n)) h s addr None t tt l)
+behind-small s symbol addr (Err c) l = tt
 
 pub line-row-small : (s : List ℕ) (symbol addr : Address) → ReadSmall (line_row s symbol addr)
 unfolding line_row

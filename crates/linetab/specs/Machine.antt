@@ -9,44 +9,37 @@
 --             4 to 255                                the address and the line change, and a row is made
 --
 -- Assumes nothing.
-use Rattle.std.specs.Prelude.{ℕ, zero, suc, ◌+◌, ◌-◌, ◌%◌, ◌^◌, List, length, ℤ, pos, negsuc, ◌+ℤ◌, ◌-ℤ◌, ◌==◌, int_div, int_rem, nat_lt, slice_index}
+use Rattle.std.specs.Prelude.{ℕ, zero, suc, ◌+◌, ◌-◌, ◌%◌, ◌^◌, List, length, ℤ, pos, negsuc, ◌+ℤ◌, ◌-ℤ◌, ◌==◌, int_div, int_rem, nat_lt, slice_index, Ok, Err, Result}
 use Rattle.types.specs.declared.Address.{Address}
 use Rattle.reads.specs.Pick.{pick}
 use Rattle.int64.specs.Wrap.{mod_z, wrap}
 use Rattle.leb128.specs.Answers.{unsigned_at, signed_at}
-use Rattle.leb128.specs.declared.Unsigned.{Unsigned}
-use Rattle.leb128.specs.declared.Unsigned.TheVariants as u
-use Rattle.leb128.specs.declared.Signed.{Signed}
-use Rattle.leb128.specs.declared.Signed.TheVariants as z
+use Rattle.leb128.specs.declared.Cause.{Cause}
 use Rattle.linetab.specs.declared.LineTableHeader.{LineTableHeader}
 use Rattle.linetab.specs.declared.LineTableRow.{LineTableRow}
 use Rattle.linetab.specs.declared.LineState.{LineState}
-use Rattle.linetab.specs.declared.HeaderRead.{HeaderRead}
-use Rattle.linetab.specs.declared.HeaderRead.TheVariants.{Is, Short, Wide}
 use Rattle.linetab.specs.declared.RunResult.{RunResult}
-use Rattle.linetab.specs.declared.RunResult.TheVariants.{Ok, NewRow, End, Stopped, UsedUp}
+use Rattle.linetab.specs.declared.RunResult.TheVariants as run
+use Rattle.linetab.specs.declared.RunResult.TheVariants.{NewRow, End, Stopped, UsedUp}
 
 -- the header with min and max known, by what is read for its first line
-unfoldable pub header_with_first : ℤ → ℤ → Unsigned → HeaderRead
-header_with_first min max (u.Value v n) =
-    Is (record { min_delta = min; max_delta = max; first_line = record { 0 = v % 2 ^ 32 } }) n
-header_with_first min max u.Short = Short
-header_with_first min max u.Wide = Wide
+unfoldable pub header_with_first : ℤ → ℤ → Result (ℕ × ℕ) Cause → Result (LineTableHeader × ℕ) Cause
+header_with_first min max (Ok (v, n)) =
+    Ok (record { min_delta = min; max_delta = max; first_line = record { 0 = v % 2 ^ 32 } }, n)
+header_with_first min max (Err c) = Err c
 
 -- the header with min known, by what is read for max
-unfoldable pub header_with_max : List ℕ → ℤ → Signed → HeaderRead
-header_with_max s min (z.Value max n) = header_with_first min max (unsigned_at s n)
-header_with_max s min z.Short = Short
-header_with_max s min z.Wide = Wide
+unfoldable pub header_with_max : List ℕ → ℤ → Result (ℤ × ℕ) Cause → Result (LineTableHeader × ℕ) Cause
+header_with_max s min (Ok (max, n)) = header_with_first min max (unsigned_at s n)
+header_with_max s min (Err c) = Err c
 
 -- the header, by what is read for min
-unfoldable pub header_with_min : List ℕ → Signed → HeaderRead
-header_with_min s (z.Value min n) = header_with_max s min (signed_at s n)
-header_with_min s z.Short = Short
-header_with_min s z.Wide = Wide
+unfoldable pub header_with_min : List ℕ → Result (ℤ × ℕ) Cause → Result (LineTableHeader × ℕ) Cause
+header_with_min s (Ok (min, n)) = header_with_max s min (signed_at s n)
+header_with_min s (Err c) = Err c
 
--- the header at a place, and the place after it
-unfoldable pub header_of : List ℕ → ℕ → HeaderRead
+-- the header at a place, and the place after it; the first number that doesn't read decides
+unfoldable pub header_of : List ℕ → ℕ → Result (LineTableHeader × ℕ) Cause
 header_of s at = header_with_min s (signed_at s at)
 
 -- the state before the first opcode: the symbol's address, file 1, the first line
@@ -61,23 +54,20 @@ state addr file line n = record {
 }
 
 -- opcode 1
-unfoldable pub set_file : LineTableRow → Unsigned → RunResult
-set_file r (u.Value v n) = Ok (state r.addr.0 (v % 2 ^ 32) r.file_line.0 n)
-set_file r u.Short = Stopped
-set_file r u.Wide = Stopped
+unfoldable pub set_file : LineTableRow → Result (ℕ × ℕ) Cause → RunResult
+set_file r (Ok (v, n)) = run.Ok (state r.addr.0 (v % 2 ^ 32) r.file_line.0 n)
+set_file r (Err c) = Stopped
 
 -- opcode 2
-unfoldable pub advance_pc : LineTableRow → Unsigned → RunResult
-advance_pc r (u.Value v n) = NewRow (state ((r.addr.0 + v) % 2 ^ 64) r.file_idx.0 r.file_line.0 n)
-advance_pc r u.Short = Stopped
-advance_pc r u.Wide = Stopped
+unfoldable pub advance_pc : LineTableRow → Result (ℕ × ℕ) Cause → RunResult
+advance_pc r (Ok (v, n)) = NewRow (state ((r.addr.0 + v) % 2 ^ 64) r.file_idx.0 r.file_line.0 n)
+advance_pc r (Err c) = Stopped
 
 -- opcode 3
-unfoldable pub advance_line : LineTableRow → Signed → RunResult
-advance_line r (z.Value d n) =
-    Ok (state r.addr.0 r.file_idx.0 (mod_z (pos r.file_line.0 +ℤ d) (2 ^ 32)) n)
-advance_line r z.Short = Stopped
-advance_line r z.Wide = Stopped
+unfoldable pub advance_line : LineTableRow → Result (ℤ × ℕ) Cause → RunResult
+advance_line r (Ok (d, n)) =
+    run.Ok (state r.addr.0 r.file_idx.0 (mod_z (pos r.file_line.0 +ℤ d) (2 ^ 32)) n)
+advance_line r (Err c) = Stopped
 
 -- how many line changes the special opcodes tell apart, as a signed 64-bit number
 unfoldable pub range_of : LineTableHeader → ℤ

@@ -1,22 +1,21 @@
 -- What a run for an address comes to before its answer is known.
 -- Assumes nothing.
-use Rattle.std.specs.Prelude.{◌≡◌, ℕ, ◌≤◌, List}
+use Rattle.std.specs.Prelude.{◌≡◌, ℕ, ◌≤◌, List, Some, Option}
 use Rattle.types.specs.declared.Address.{Address}
 use Rattle.linetab.specs.declared.LineTableHeader.{LineTableHeader}
+use Rattle.linetab.specs.declared.LineTableRow.{LineTableRow}
 use Rattle.linetab.specs.declared.LineState.{LineState}
 use Rattle.linetab.specs.declared.RunResult.TheVariants.{Ok, NewRow}
-use Rattle.linetab.specs.declared.RowFound.{RowFound}
-use Rattle.linetab.specs.declared.RowFound.TheVariants.{Row}
 use Rattle.linetab.specs.Machine.{step_of}
 
 -- from the state t, before which b is the last row made, opcodes lead to the state q, before which c is; every row made
 -- on the way is at the address or below it
 pub data Reaches (h : LineTableHeader) (ops : List ℕ) (addr : Address) :
-    RowFound → LineState → RowFound → LineState → Type 0 where
-  here : {b : RowFound} {t : LineState} → Reaches h ops addr b t b t
+    Option LineTableRow → LineState → Option LineTableRow → LineState → Type 0 where
+  here : {b : Option LineTableRow} {t : LineState} → Reaches h ops addr b t b t
   ok :
-      {b c : RowFound} {t q v : LineState} → step_of h ops t ≡ Ok v → Reaches h ops addr b v c q →
+      {b c : Option LineTableRow} {t q v : LineState} → step_of h ops t ≡ Ok v → Reaches h ops addr b v c q →
       Reaches h ops addr b t c q
   row :
-      {b c : RowFound} {t q v : LineState} → step_of h ops t ≡ NewRow v → v.row.addr.0 ≤ addr.0 →
-      Reaches h ops addr (Row v.row) v c q → Reaches h ops addr b t c q
+      {b c : Option LineTableRow} {t q v : LineState} → step_of h ops t ≡ NewRow v → v.row.addr.0 ≤ addr.0 →
+      Reaches h ops addr (Some v.row) v c q → Reaches h ops addr b t c q

@@ -1,11 +1,9 @@
 // The GSYM line table: its header, its machine one opcode at a time, and the row of an address (document 01, "Line
 // table"). A header that doesn't read is told with its cause; the refusal number is left to the caller.
-//   header   the numbers of a header behind the first one
 //   opcode   what each opcode does to a row
 //   quick    the row of an address at the usual ranges
 #![tactic(auto)]
 
-mod header;
 mod opcode;
 mod quick;
 
@@ -13,8 +11,7 @@ ghost use Rattle.std.specs.Prelude.{◌≡◌};
 ghost use Rattle.linetab.specs.Machine.{header_of, start_row, step_of};
 ghost use Rattle.linetab.specs.Rows.{at_end, row_from, row_for, line_row};
 
-use header::parse_max;
-use leb128::Signed;
+use leb128::Cause;
 use opcode::{advance_line, advance_pc, range_of, set_file, special};
 use quick::{Plan, quick_rows};
 use types::{Address, FileIndex, LineNumber};
@@ -58,18 +55,6 @@ pub struct LineState {
     pub at: usize,
 }
 
-// The header and the place after it. Short: a number's bytes end before it does. Wide: a number is too wide. The first
-// number that doesn't read decides.
-#[derive(Clone, Copy)]
-pub enum HeaderRead {
-    Is {
-        header: LineTableHeader,
-        next: usize,
-    },
-    Short,
-    Wide,
-}
-
 // What one opcode did. Ok: no row. NewRow: the state's row is one of the table. End: opcode 0, with the place after it.
 // Stopped: the range of a special opcode is 0, or an operand doesn't read. UsedUp: there is no byte at the place.
 #[derive(Clone, Copy)]
@@ -81,42 +66,31 @@ pub enum RunResult {
     UsedUp,
 }
 
-// The row of an address in a program, or none.
-#[derive(Clone, Copy)]
-pub enum RowFound {
-    Row(LineTableRow),
-    Nothing,
-}
-
-// The row of an address in a whole table, none, or why the header doesn't read.
-#[derive(Clone, Copy)]
-pub enum LineRead {
-    Row(LineTableRow),
-    Nothing,
-    Short,
-    Wide,
-}
-
-// The header at `at`.
-pub fn parse(block: &[u8], at: usize) -> HeaderRead
+// The header at `at` and the place after it. Short: a number's bytes end before it does. Wide: a number is too wide.
+// The first number that doesn't read decides. The first line is kept modulo 2^32.
+pub fn parse(block: &[u8], at: usize) -> Result<(LineTableHeader, usize), Cause>
     ensures { result ≡ header_of block.now at }
 {
-    match leb128::signed_at(block, at) {
-        Signed::Value { value, next } => parse_max(block, value, next),
-        Signed::Short => HeaderRead::Short,
-        Signed::Wide => HeaderRead::Wide,
-    }
+    let (min_delta, max_at) = leb128::signed_at(block, at)?;
+    let (max_delta, line_at) = leb128::signed_at(block, max_at)?;
+    let (line, next) = leb128::unsigned_at(block, line_at)?;
+    let first_line = LineNumber((line % 0x1_0000_0000) as u32);
+    let header = LineTableHeader {
+        min_delta,
+        max_delta,
+        first_line,
+    };
+    Ok((header, next))
 }
 
 // The state's row before the first opcode: the symbol's address, file 1, the header's first line.
 pub fn from_header(header: LineTableHeader, symbol: Address) -> LineTableRow
     ensures { result ≡ start_row header symbol }
 {
-    let file_line = header.first_line;
     LineTableRow {
         addr: symbol,
         file_idx: FileIndex(1),
-        file_line,
+        file_line: header.first_line,
     }
 }
 
@@ -142,18 +116,20 @@ pub fn run_op(header: LineTableHeader, ops: &[u8], state: LineState) -> RunResul
 
 // The answer where the program ends: none if no row was made, else the present state, with any change of file or line
 // made after the last row.
-fn ending(before: RowFound, row: LineTableRow) -> RowFound
+fn ending(before: Option<LineTableRow>, row: LineTableRow) -> Option<LineTableRow>
     ensures { result ≡ at_end before row }
 {
-    match before {
-        RowFound::Row(_) => RowFound::Row(row),
-        RowFound::Nothing => RowFound::Nothing,
-    }
+    before.and(Some(row))
 }
 
 // The row of `addr` in the program from `start` on: the one before the first row above `addr`, none if that is the
 // first made. A range that fits a byte goes the quick way, row by row; all others go opcode by opcode.
-pub fn row_for(header: LineTableHeader, ops: &[u8], start: LineState, addr: Address) -> RowFound
+pub fn row_for(
+    header: LineTableHeader,
+    ops: &[u8],
+    start: LineState,
+    addr: Address,
+) -> Option<LineTableRow>
     ensures { result ≡ row_for header ops.now start addr }
 {
     let whole = range_of(header);
@@ -164,17 +140,17 @@ pub fn row_for(header: LineTableHeader, ops: &[u8], start: LineState, addr: Addr
         let factor = 65536 / range + 1;
         return quick_rows(header, ops, start, addr, Plan { range, factor, low });
     }
-    row_by_op(header, ops, RowFound::Nothing, start, addr)
+    row_by_op(header, ops, None, start, addr)
 }
 
 // The same opcode by opcode, at any range, and also where rows were made before `start`: `last` is the last of them.
 fn row_by_op(
     header: LineTableHeader,
     ops: &[u8],
-    last: RowFound,
+    last: Option<LineTableRow>,
     start: LineState,
     addr: Address,
-) -> RowFound
+) -> Option<LineTableRow>
     ensures { result ≡ row_from header ops.now addr last start }
 {
     let mut before = last;
@@ -185,43 +161,25 @@ fn row_by_op(
                 state = after;
             }
             RunResult::NewRow(after) => {
-                let row = after.row;
-                let to = row.addr;
-                if addr.0 < to.0 {
+                if addr.0 < after.row.addr.0 {
                     return before;
                 }
-                before = RowFound::Row(row);
+                before = Some(after.row);
                 state = after;
             }
-            RunResult::End(_) => {
-                let row = state.row;
-                return ending(before, row);
-            }
-            RunResult::Stopped => {
-                let row = state.row;
-                return ending(before, row);
-            }
-            RunResult::UsedUp => {
-                let row = state.row;
-                return ending(before, row);
+            RunResult::End(_) | RunResult::Stopped | RunResult::UsedUp => {
+                return ending(before, state.row);
             }
         }
     }
 }
 
-// The row of `addr` in a whole table: the header at 0, and the program behind it.
-pub fn line_row(block: &[u8], symbol: Address, addr: Address) -> LineRead
+// The row of `addr` in a whole table: the header at 0, and the program behind it. None where no row covers `addr`; the
+// cause where the header doesn't read.
+pub fn line_row(block: &[u8], symbol: Address, addr: Address) -> Result<Option<LineTableRow>, Cause>
     ensures { result ≡ line_row block.now symbol addr }
 {
-    match parse(block, 0) {
-        HeaderRead::Is { header, next } => {
-            let row = from_header(header, symbol);
-            match row_for(header, block, LineState { row, at: next }, addr) {
-                RowFound::Row(found) => LineRead::Row(found),
-                RowFound::Nothing => LineRead::Nothing,
-            }
-        }
-        HeaderRead::Short => LineRead::Short,
-        HeaderRead::Wide => LineRead::Wide,
-    }
+    let (header, next) = parse(block, 0)?;
+    let row = from_header(header, symbol);
+    Ok(row_for(header, block, LineState { row, at: next }, addr))
 }

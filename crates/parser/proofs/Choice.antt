@@ -1,11 +1,8 @@
 -- What the search answers: on every table an entry that fits, and unknown exactly where there is none to choose; on a
 -- table that never falls the last entry that isn't above, and no other index fits.
 -- Assumes nothing.
-use Rattle.std.proofs.Common.{◌≡◌, ℕ, zero, suc, ◌+◌, ◌-◌, ◌/◌, ◌<◌, ◌≤◌, ◌⊎◌, List, length, get_or, refl, ap, subst, inl, inr, ⊎_elim, arith, le-leb}
-use borrow.Author.Tests.{lt-leb}
-use Rattle.std.proofs.lemmas.Bool.{cases_lt}
-use Rattle.parser.specs.declared.Found.{Found}
-use Rattle.parser.specs.declared.Found.TheVariants.{At, Unknown}
+use Rattle.std.proofs.Common.{Option, Some, None, ◌≡◌, ℕ, zero, suc, ◌+◌, ◌-◌, ◌/◌, ◌<◌, ◌≤◌, ◌⊎◌, List, length, get_or, refl, ap, subst, inl, inr, ⊎_elim, arith, le-leb}
+use Rattle.std.proofs.lemmas.Bool.{cases_lt, lt-leb}
 use Rattle.parser.specs.Search.{halving, chosen_from, find_in, Chosen, Right, NeverFalls, Rises, LastNotAbove}
 use Rattle.parser.proofs.Halving.{find-empty, find-above, find_at}
 
@@ -82,10 +79,10 @@ module _ (table : List ℕ) (wanted : ℕ) where
       let e : length table ≡ 0 = omega arith in subst (Right table wanted) (find-empty table wanted e) (inl e))
       (cases_lt 0 (length table))
 
-  pub found-chosen : (i : ℕ) → find_in table wanted ≡ At i → (get_or table 0 0 ≤ wanted) × Chosen table wanted i
+  pub found-chosen : (i : ℕ) → find_in table wanted ≡ Some i → (get_or table 0 0 ≤ wanted) × Chosen table wanted i
   found-chosen i e = subst (Right table wanted) e chosen
 
-  pub unknown-why : find_in table wanted ≡ Unknown → (length table ≡ 0) ⊎ (wanted < get_or table 0 0)
+  pub unknown-why : find_in table wanted ≡ None → (length table ≡ 0) ⊎ (wanted < get_or table 0 0)
   unknown-why e = subst (Right table wanted) e chosen
 
   -- on a table that never falls
@@ -113,19 +110,19 @@ module _ (table : List ℕ) (wanted : ℕ) where
         after (inr g) j l m = omega (arith, never-falls-between (i + 1) j (omega arith) m)
 
     module _ (i : ℕ) (h : Chosen table wanted i) where
-      same : (f : Found) → Right table wanted f → f ≡ At i
-      same (At j) r = ap At (by (cases_lt i j) (cases_lt j i))
+      same : (f : Option ℕ) → Right table wanted f → f ≡ Some i
+      same (Some j) r = ap Some (by (cases_lt i j) (cases_lt j i))
         where
           by : (i < j) ⊎ (j ≤ i) → (j < i) ⊎ (i ≤ j) → j ≡ i
           by (inl l) b = absurd (omega (arith, (chosen_last i h).above-after j l r.1.inside, r.1.not-above))
           by (inr l) (inl m) = absurd (omega (arith, (chosen_last j r.1).above-after i m h.inside, h.not-above))
           by (inr l) (inr m) = omega arith
-      same Unknown (inl e) = absurd (omega (arith, h.inside))
-      same Unknown (inr g) =
+      same None (inl e) = absurd (omega (arith, h.inside))
+      same None (inr g) =
           absurd (omega (arith, never-falls-between 0 i (omega arith) h.inside, h.not-above))
 
       -- an index that fits is the one that is answered, so no other fits
-      pub chosen-unique : find_in table wanted ≡ At i
+      pub chosen-unique : find_in table wanted ≡ Some i
       chosen-unique = same (find_in table wanted) chosen
 
 pub rises-never-falls : (table : List ℕ) → Rises table → NeverFalls table

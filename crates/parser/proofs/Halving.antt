@@ -1,10 +1,8 @@
 -- The halving search one turn at a time, with nothing said of how many turns there are; and each way out of the code.
 -- Assumes nothing.
-use Rattle.std.proofs.Common.{◌≡◌, ℕ, zero, suc, ◌+◌, ◌-◌, ◌/◌, ◌<◌, ◌≤◌, leb, List, length, get_or, refl, ap, ⊎_elim, arith, le-ltb, lt-ltb, eq-eqb, ne_eqb, le-leb}
-use borrow.Author.Tests.{lt-leb}
+use Rattle.std.proofs.Common.{Some, None, ◌≡◌, ℕ, zero, suc, ◌+◌, ◌-◌, ◌/◌, ◌<◌, ◌≤◌, leb, List, length, get_or, refl, ap, ⊎_elim, arith, le-ltb, lt-ltb, eq-eqb, ne_eqb, le-leb}
 use Rattle.reads.specs.Pick.{pick}
-use Rattle.std.proofs.lemmas.Bool.{cases_lt}
-use Rattle.parser.specs.declared.Found.TheVariants.{At, Unknown}
+use Rattle.std.proofs.lemmas.Bool.{cases_lt, lt-leb}
 use Rattle.parser.specs.Search.{halving, chosen_from, find_in}
 
 -- the index after a turn
@@ -40,15 +38,15 @@ module _ (table : List ℕ) (wanted : ℕ) where
       (omega arith))
 
   -- the ways out
-  pub find-empty : length table ≡ 0 → Unknown ≡ find_in table wanted
+  pub find-empty : length table ≡ 0 → None ≡ find_in table wanted
   unfolding find_in
   find-empty h = rw (eq-eqb _ _ h)
 
-  pub find-above : (length table ≡ 0 → ⊥) → wanted < get_or table 0 0 → Unknown ≡ find_in table wanted
+  pub find-above : (length table ≡ 0 → ⊥) → wanted < get_or table 0 0 → None ≡ find_in table wanted
   unfolding find_in
   find-above n h = rw (ne_eqb _ _ n, lt-ltb _ _ h)
 
   pub find_at : (i : ℕ) → (length table ≡ 0 → ⊥) → get_or table 0 0 ≤ wanted
-      → chosen_from table wanted 0 (length table) ≡ i → At i ≡ find_in table wanted
+      → chosen_from table wanted 0 (length table) ≡ i → Some i ≡ find_in table wanted
   unfolding find_in
   find_at i n h e = rw (ne_eqb _ _ n, le-ltb _ _ h, e)

@@ -1,15 +1,12 @@
 -- A table that never falls: the search comes to the last entry that isn't above, counted along the table, and so does
 -- the search for an address among the entries' addresses, whatever the base and the offset size.
 -- Assumes nothing.
-use Rattle.std.proofs.Common.{◌≡◌, ℕ, zero, suc, ◌+◌, ◌-◌, ◌<◌, ◌≤◌, leb, List, [], ◌∷◌, map, length, get_or, sym, refl, ap, ◌∙◌, inl, inr, ⊎_elim, arith, le-ltb, lt-ltb, le-leb}
+use Rattle.std.proofs.Common.{Option, Some, None, ◌≡◌, ℕ, zero, suc, ◌+◌, ◌-◌, ◌<◌, ◌≤◌, leb, List, [], ◌∷◌, map, length, get_or, sym, refl, ap, ◌∙◌, inl, inr, ⊎_elim, arith, le-ltb, lt-ltb, le-leb}
 use lib.ListN.{length-map}
-use borrow.Author.Tests.{lt-leb}
 use Rattle.reads.specs.Pick.{pick}
-use Rattle.std.proofs.lemmas.Bool.{cases_lt}
+use Rattle.std.proofs.lemmas.Bool.{cases_lt, lt-leb}
 use Rattle.types.specs.declared.Address.{Address}
 use Rattle.parser.specs.declared.Tables.{Tables}
-use Rattle.parser.specs.declared.Found.{Found}
-use Rattle.parser.specs.declared.Found.TheVariants.{At, Unknown}
 use Rattle.parser.specs.Search.{find_in, table_of, find_of, land_from, land_of, addresses_of}
 use Rattle.parser.specs.Search.{Right, NeverFalls, LastNotAbove}
 use Rattle.parser.proofs.Choice.{chosen, chosen_last, never-falls-between}
@@ -19,43 +16,43 @@ abbrev pub AllAbove : List ℕ → ℕ → Type 0
 AllAbove table wanted = (j : ℕ) → j < length table → wanted < get_or table j 0
 
 module _ (wanted : ℕ) where
-  from-none : (k : ℕ) (table : List ℕ) (best : Found) → AllAbove table wanted → land_from k table wanted best ≡ best
+  from-none : (k : ℕ) (table : List ℕ) (best : Option ℕ) → AllAbove table wanted → land_from k table wanted best ≡ best
   unfolding land_from
   from-none k [] best a = refl
   from-none k (e ∷ es) best a =
       rw (lt-leb _ _ (a 0 (omega arith))) (from-none (k + 1) es best (λ j l. a (suc j) (omega arith)))
 
   from_last :
-      (k : ℕ) (table : List ℕ) (best : Found) (i : ℕ) → i < length table → get_or table i 0 ≤ wanted →
-      ((j : ℕ) → i < j → j < length table → wanted < get_or table j 0) → land_from k table wanted best ≡ At (k + i)
+      (k : ℕ) (table : List ℕ) (best : Option ℕ) (i : ℕ) → i < length table → get_or table i 0 ≤ wanted →
+      ((j : ℕ) → i < j → j < length table → wanted < get_or table j 0) → land_from k table wanted best ≡ Some (k + i)
   unfolding land_from
   from_last k [] best i h n a = absurd (omega arith)
   from_last k (e ∷ es) best zero h n a =
       let q : k ≡ k + 0 = omega arith in
       rw (le-leb _ _ n)
-      (from-none (k + 1) es (At k) (λ j l. a (suc j) (omega arith) (omega arith)) ∙ ap At q)
+      (from-none (k + 1) es (Some k) (λ j l. a (suc j) (omega arith) (omega arith)) ∙ ap Some q)
   from_last k (e ∷ es) best (suc i) h n a =
       let q : k + 1 + i ≡ k + suc i = omega arith in
-      from_last (k + 1) es _ i (omega arith) n (λ j l m. a (suc j) (omega arith) (omega arith)) ∙ ap At q
+      from_last (k + 1) es _ i (omega arith) n (λ j l m. a (suc j) (omega arith) (omega arith)) ∙ ap Some q
 
-  pub land-none : (table : List ℕ) → AllAbove table wanted → land_of table wanted ≡ Unknown
+  pub land-none : (table : List ℕ) → AllAbove table wanted → land_of table wanted ≡ None
   unfolding land_of
-  land-none table a = from-none 0 table Unknown a
+  land-none table a = from-none 0 table None a
 
-  pub land_last : (table : List ℕ) (i : ℕ) → LastNotAbove table wanted i → land_of table wanted ≡ At i
+  pub land_last : (table : List ℕ) (i : ℕ) → LastNotAbove table wanted i → land_of table wanted ≡ Some i
   unfolding land_of
   land_last table i h =
       let q : 0 + i ≡ i = omega arith in
-      from_last 0 table Unknown i h.inside h.not-above h.above-after ∙ ap At q
+      from_last 0 table None i h.inside h.not-above h.above-after ∙ ap Some q
 
   -- the search is that
   pub find-lands : (table : List ℕ) → NeverFalls table → find_in table wanted ≡ land_of table wanted
   find-lands table up = go (find_in table wanted) (chosen table wanted)
     where
-      go : (f : Found) → Right table wanted f → f ≡ land_of table wanted
-      go (At i) r = sym (land_last table i (chosen_last table wanted up i r.1))
-      go Unknown (inl e) = sym (land-none table (λ j l. absurd (omega arith)))
-      go Unknown (inr g) =
+      go : (f : Option ℕ) → Right table wanted f → f ≡ land_of table wanted
+      go (Some i) r = sym (land_last table i (chosen_last table wanted up i r.1))
+      go None (inl e) = sym (land-none table (λ j l. absurd (omega arith)))
+      go None (inr g) =
           sym (land-none table (λ j l. omega (arith, never-falls-between table wanted up 0 j (omega arith) l)))
 
 -- the same of addresses
@@ -75,25 +72,25 @@ module _ (base : ℕ) (table : List ℕ) where
         let m : e ≤ addr - base = omega arith in le-leb _ _ l ∙ sym (le-leb _ _ m))
         (cases_lt addr (base + e))
 
-    moved_none : addr < base → land_of (map (λ e. base + e) table) addr ≡ Unknown
+    moved_none : addr < base → land_of (map (λ e. base + e) table) addr ≡ None
     moved_none h =
         land-none addr (map (λ e. base + e) table)
         (λ j l. let m : j < length table = rw length-map at l in omega (arith, moved-entry j table m))
 
     -- at any step along the table the two agree
     moved-from :
-        (k : ℕ) (es : List ℕ) (best : Found) → base ≤ addr →
+        (k : ℕ) (es : List ℕ) (best : Option ℕ) → base ≤ addr →
         land_from k (map (λ e. base + e) es) addr best ≡ land_from k es (addr - base) best
     unfolding land_from
     moved-from k [] best h = refl
     moved-from k (e ∷ es) best h =
         let q : leb (base + e) addr ≡ leb e (addr - base) = same_test e h in
-        ap (λ b. land_from (k + 1) (map (λ e. base + e) es) addr (pick b (At k) best)) q
-        ∙ moved-from (k + 1) es (pick (leb e (addr - base)) (At k) best) h
+        ap (λ b. land_from (k + 1) (map (λ e. base + e) es) addr (pick b (Some k) best)) q
+        ∙ moved-from (k + 1) es (pick (leb e (addr - base)) (Some k) best) h
 
     pub land-moved : base ≤ addr → land_of (map (λ e. base + e) table) addr ≡ land_of table (addr - base)
     unfolding land_of
-    land-moved h = moved-from 0 table Unknown h
+    land-moved h = moved-from 0 table None h
 
 module _ (file : List ℕ) (t : Tables) (addr : Address) where
   pub find-address : NeverFalls (table_of file t) → find_of file t addr ≡ land_of (addresses_of file t) addr.0

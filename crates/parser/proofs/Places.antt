@@ -1,49 +1,41 @@
 -- The tables of an opened file lie within it, and each of its numbers reads.
 -- Assumes nothing.
-use Rattle.std.proofs.Common.{◌≡◌, ℕ, ◌+◌, ◌-◌, ◌*◌, ◌<◌, ◌≤◌, Bool, true, false, eqb, leb, List, length, drop, sym, refl, ap, ◌∙◌, ⊎_elim, arith, length-drop, lt-ltb, le-leb}
-use borrow.Author.Tests.{lt-leb}
+use Rattle.std.proofs.Common.{Option, Some, None, Result, Ok, Err, ◌≡◌, ℕ, ◌+◌, ◌-◌, ◌*◌, ◌<◌, ◌≤◌, Bool, true, false, eqb, leb, List, length, drop, sym, refl, ◌∙◌, ⊎_elim, arith, length-drop, lt-ltb, le-leb}
 use Rattle.reads.specs.Pick.{pick}
-use Rattle.reads.specs.Answers.{as32, u16_at, u32_at}
-use Rattle.reads.specs.declared.Read16.{Read16}
-use Rattle.reads.specs.declared.Read16.TheVariants as r16
-use Rattle.reads.specs.declared.Read32.{Read32}
-use Rattle.reads.specs.declared.Read32.TheVariants as r32
-use Rattle.std.proofs.lemmas.Bool.{cases_lt}
+use Rattle.reads.specs.Answers.{u16_at, u32_at}
+use Rattle.std.proofs.lemmas.Bool.{cases_lt, lt-leb}
 use Rattle.types.specs.declared.FileIndex.{FileIndex}
 use Rattle.parser.specs.Numbers.{num_at, pair_at}
 use Rattle.parser.specs.declared.Tables.{Tables}
-use Rattle.parser.specs.declared.Opened.{Opened}
-use Rattle.parser.specs.declared.Opened.TheVariants.{Is, Refused}
 use Rattle.parser.specs.declared.opening.Header.{Header}
 use Rattle.parser.specs.Header.{numbers_of, file_count_place, files_place, tables_with, with_files, tables_of}
 use Rattle.parser.specs.Header.{after_version, on_version, on_magic, opened_of, Within}
-use Rattle.parser.specs.declared.FileRead.TheVariants as row
 use Rattle.parser.specs.Search.{is_width, table_of}
 use Rattle.parser.specs.Entries.{offset_at, file_at}
 use Rattle.parser.proofs.Fields.{never, num-reads}
 use Rattle.parser.proofs.Table.{length-table, len-fits}
 
-refused-is : (n : ℕ) (t : Tables) {A : Type 0} → Refused n ≡ Is t → A
+refused-is : (n : ℕ) (t : Tables) {A : Type 0} → Err n ≡ Ok t → A
 refused-is n t e = let z : ◌≡◌ {A = ℕ} 0 1 = cc in never z
 
 module _ (file : List ℕ) (t : Tables) where
   -- an answer after a test
-  only : (b : Bool) (x : Opened) (n : ℕ) → pick b x (Refused n) ≡ Is t → x ≡ Is t
+  only : (b : Bool) (x : Result Tables ℕ) (n : ℕ) → pick b x (Err n) ≡ Ok t → x ≡ Ok t
   only true x n e = e
   only false x n e = refused-is n t e
 
-  first_of : (a b : ℕ) (x : Opened) (n : ℕ) → pick (leb a b) x (Refused n) ≡ Is t → (a ≤ b) × (x ≡ Is t)
+  first_of : (a b : ℕ) (x : Result Tables ℕ) (n : ℕ) → pick (leb a b) x (Err n) ≡ Ok t → (a ≤ b) × (x ≡ Ok t)
   first_of a b x n e =
       ⊎_elim
-      (λ (l : b < a). let f : Refused n ≡ Is t = simp (lt-leb _ _ l) at e in refused-is n t f)
+      (λ (l : b < a). let f : Err n ≡ Ok t = simp (lt-leb _ _ l) at e in refused-is n t f)
       (λ (l : a ≤ b). (l, simp (le-leb _ _ l) at e))
       (cases_lt b a)
 
-  files-within : (h : Header) (n : ℕ) → with_files file h n ≡ Is t → Within file t
+  files-within : (h : Header) (n : ℕ) → with_files file h n ≡ Ok t → Within file t
   unfolding with_files
   files-within h n e =
       let p = first_of (files_place h + n * 8) (length file) _ 2 e in
-      let q = first_of (h.strings_offset + h.strings_size) (length file) (Is (tables_with h n)) 2 p.1 in
+      let q = first_of (h.strings_offset + h.strings_size) (length file) (Ok (tables_with h n)) 2 p.1 in
       let s : tables_with h n ≡ t = cc q.1 in
       let w : Within file (tables_with h n) = record {
         addrs = refl;
@@ -56,7 +48,7 @@ module _ (file : List ℕ) (t : Tables) where
       } in
       rw (← s) w
 
-  after-within : after_version file ≡ Is t → Within file t
+  after-within : after_version file ≡ Ok t → Within file t
   unfolding after_version tables_of
   after-within e =
       let h = numbers_of file in
@@ -64,19 +56,19 @@ module _ (file : List ℕ) (t : Tables) where
       let q = first_of (files_place h) (length file) (with_files file h (num_at 4 file (file_count_place h))) 2 p.1 in
       files-within h (num_at 4 file (file_count_place h)) q.1
 
-  version-within : (r : Read16) → on_version file r ≡ Is t → Within file t
+  version-within : (r : Option ℕ) → on_version file r ≡ Ok t → Within file t
   unfolding on_version
-  version-within (r16.Value v) e = after-within (only (eqb v 1) (after_version file) 4 e)
-  version-within r16.Unread e = refused-is 2 t e
+  version-within (Some v) e = after-within (only (eqb v 1) (after_version file) 4 e)
+  version-within None e = refused-is 2 t e
 
-  magic-within : (r : Read32) → on_magic file r ≡ Is t → Within file t
+  magic-within : (r : Option ℕ) → on_magic file r ≡ Ok t → Within file t
   unfolding on_magic
-  magic-within (r32.Value m) e =
+  magic-within (Some m) e =
       version-within (u16_at file 4) (only (eqb m 0x4753594d) (on_version file (u16_at file 4)) 3 e)
-  magic-within r32.Unread e = refused-is 2 t e
+  magic-within None e = refused-is 2 t e
 
   -- all tables lie within the file
-  pub tables-within : opened_of file ≡ Is t → Within file t
+  pub tables-within : opened_of file ≡ Ok t → Within file t
   unfolding opened_of
   tables-within e = magic-within (u32_at file 0) e
 
@@ -90,19 +82,17 @@ module _ (file : List ℕ) (t : Tables) (w : Within file t) where
   pub table-full : is_width t.offset_size ≡ true → length (table_of file t) ≡ t.count
   table-full h = length-table file t ∙ sym (len-fits t.offset_size t.count _ h table_fits)
 
-  pub offset-reads : (i : ℕ) → i < t.count → offset_at file t i ≡ r32.Value (num_at 4 (drop t.offsets file) (i * 4))
+  pub offset-reads : (i : ℕ) → i < t.count → offset_at file t i ≡ Some (num_at 4 (drop t.offsets file) (i * 4))
   unfolding offset_at u32_at
   offset-reads i h =
       rw (lt-ltb _ _ h)
-      (ap as32
-      (num-reads (drop t.offsets file) (i * 4) 4
-      (omega (arith, length-drop t.offsets file, w.files, w.files-end))))
+      (num-reads (drop t.offsets file) (i * 4) 4 (omega (arith, length-drop t.offsets file, w.files, w.files-end)))
 
   -- a row of the file table at each index below the file count
   pub file-reads :
       (index : FileIndex) → index.0 < t.file_count →
       file_at file t index
-      ≡ row.Is (record {
+      ≡ Some (record {
         directory = record { 0 = num_at 4 (drop t.files file) (index.0 * 8) };
         filename = record { 0 = num_at 4 (drop t.files file) (index.0 * 8 + 4) };
       })

@@ -1,19 +1,13 @@
 -- What an entry says: each way out of the code is the case of its definition; a chosen symbol is at most the address.
 -- Assumes nothing.
-use Rattle.std.proofs.Common.{◌≡◌, ℕ, ◌+◌, ◌-◌, ◌*◌, ◌%◌, ◌^◌, ◌<◌, ◌≤◌, true, false, ltb, List, length, get_or, drop, sym, refl, ap, ◌∙◌, arith, le-ltb, lt-ltb, eq-eqb, ne_eqb}
+use Rattle.std.proofs.Common.{Option, Some, None, ◌≡◌, ℕ, ◌+◌, ◌-◌, ◌*◌, ◌%◌, ◌^◌, ◌<◌, ◌≤◌, true, false, ltb, List, length, get_or, drop, sym, refl, ap, ◌∙◌, arith, le-ltb, lt-ltb, eq-eqb, ne_eqb}
 use lib.ListN.{get_or-eq_default}
 use Rattle.reads.specs.Answers.{u32_at}
-use Rattle.reads.specs.declared.Read32.{Read32}
 use Rattle.types.specs.declared.Address.{Address}
 use Rattle.types.specs.declared.FileIndex.{FileIndex}
 use Rattle.parser.specs.Numbers.{num_at, pair_at}
 use Rattle.parser.specs.declared.Tables.{Tables}
 use Rattle.parser.specs.declared.AddrInfo.{AddrInfo}
-use Rattle.parser.specs.declared.InfoRead.{InfoRead}
-use Rattle.parser.specs.declared.InfoRead.TheVariants as info
-use Rattle.parser.specs.declared.FileRead.TheVariants as row
-use Rattle.parser.specs.declared.fixed.Pair.{Pair}
-use Rattle.parser.specs.declared.fixed.Pair.TheVariants as pair
 use Rattle.parser.specs.Search.{len_of, table_of}
 use Rattle.parser.specs.Entries.{symbol_at, offset_at, as_info, info_in, on_offset, info_at, covered_by, as_file, file_at}
 use Rattle.parser.proofs.Fields.{never, pair-within}
@@ -22,9 +16,9 @@ use Rattle.parser.proofs.Table.{table_len, length-table, table-entry}
 abbrev pub address : ℕ → Address
 address n = record { 0 = n }
 
-abbrev items_of : InfoRead → ℕ
-items_of (info.Is a) = a.items
-items_of info.Unread = 0
+abbrev items_of : Option AddrInfo → ℕ
+items_of (Some a) = a.items
+items_of None = 0
 
 module _ (file : List ℕ) (t : Tables) (i : ℕ) where
   -- the symbol's address
@@ -52,26 +46,26 @@ module _ (file : List ℕ) (t : Tables) (i : ℕ) where
         ap address (g ∙ ap (λ x. (t.base.0 + x) % 2 ^ 64) k)
 
   -- size and name
-  pub info-none : t.count ≤ i → info.Unread ≡ info_at file t i
+  pub info-none : t.count ≤ i → None ≡ info_at file t i
   unfolding info_at on_offset offset_at
   info-none h = rw (le-ltb _ _ h)
 
   pub info-there :
-      (r : Read32) (rest : List ℕ) → i < t.count → rest ≡ drop t.offsets file → r ≡ u32_at rest (i * 4) →
+      (r : Option ℕ) (rest : List ℕ) → i < t.count → rest ≡ drop t.offsets file → r ≡ u32_at rest (i * 4) →
       on_offset file r ≡ info_at file t i
   unfolding info_at offset_at
   info-there r rest h d e = rw (lt-ltb _ _ h, ← d, ← e)
 
 -- an entry's first item stands behind size and name, in the file
 module _ (file : List ℕ) (at : ℕ) (a : AddrInfo) where
-  pub info-items : info_in file at ≡ info.Is a → (a.items ≡ at + 8) × (a.items ≤ length file)
+  pub info-items : info_in file at ≡ Some a → (a.items ≡ at + 8) × (a.items ≤ length file)
   unfolding info_in
   info-items e = go (pair_at file at) refl e
     where
-      go : (p : Pair) → pair_at file at ≡ p → as_info at p ≡ info.Is a → (a.items ≡ at + 8) × (a.items ≤ length file)
-      go (pair.Is size name) q f =
+      go : (p : Option (ℕ × ℕ)) → pair_at file at ≡ p → as_info at p ≡ Some a → (a.items ≡ at + 8) × (a.items ≤ length file)
+      go (Some (size, name)) q f =
           let i : a.items ≡ at + 8 = sym (ap items_of f) in (i, omega (arith, pair-within file at size name (sym q)))
-      go pair.Unread q f = let z : ◌≡◌ {A = ℕ} 0 1 = cc in never z
+      go None q f = let z : ◌≡◌ {A = ℕ} 0 1 = cc in never z
 
 -- the size rule
 module _ (addr symbol : Address) (size : ℕ) where
@@ -89,12 +83,12 @@ module _ (addr symbol : Address) (size : ℕ) where
 
 -- the file table
 module _ (file : List ℕ) (t : Tables) (index : FileIndex) where
-  pub file-none : t.file_count ≤ index.0 → row.Unread ≡ file_at file t index
+  pub file-none : t.file_count ≤ index.0 → None ≡ file_at file t index
   unfolding file_at
   file-none h = rw (le-ltb _ _ h)
 
   pub file-there :
-      (p : Pair) (rest : List ℕ) → index.0 < t.file_count → rest ≡ drop t.files file →
+      (p : Option (ℕ × ℕ)) (rest : List ℕ) → index.0 < t.file_count → rest ≡ drop t.files file →
       p ≡ pair_at rest (index.0 * 8) → as_file p ≡ file_at file t index
   unfolding file_at
   file-there p rest h d e = rw (lt-ltb _ _ h, ← d, ← e)

@@ -1,12 +1,9 @@
 -- The stages of opening: each way out of the code is the case of its definition, and no sum in it wraps.
 -- Assumes nothing.
-use Rattle.std.proofs.Common.{◌≡◌, ℕ, ◌+◌, ◌*◌, ◌^◌, ◌<◌, ◌≤◌, List, length, ◌∙◌, mul-le-mul, arith, eq-eqb, ne_eqb, le-leb}
-use borrow.Author.Tests.{lt-leb}
+use Rattle.std.proofs.Common.{Some, None, Ok, Err, ◌≡◌, ℕ, ◌+◌, ◌*◌, ◌^◌, ◌<◌, ◌≤◌, List, length, ◌∙◌, mul-le-mul, arith, eq-eqb, ne_eqb, le-leb}
+use Rattle.std.proofs.lemmas.Bool.{lt-leb}
 use Rattle.reads.specs.Answers.{u16_at, u32_at}
-use Rattle.reads.specs.declared.Read16.TheVariants as r16
-use Rattle.reads.specs.declared.Read32.TheVariants as r32
 use Rattle.parser.specs.Numbers.{num_at}
-use Rattle.parser.specs.declared.Opened.TheVariants.{Is, Refused}
 use Rattle.parser.specs.declared.opening.Header.{Header}
 use Rattle.parser.specs.Header.{numbers_of, file_count_place, files_place, tables_with, with_files, tables_of}
 use Rattle.parser.specs.Header.{after_version, on_version, on_magic, opened_of}
@@ -23,28 +20,28 @@ header size base count place len = record {
 module _ (file : List ℕ) where
   -- magic
   pub magic-right :
-      (m : ℕ) → r32.Value m ≡ u32_at file 0 → m ≡ 0x4753594d → on_version file (u16_at file 4) ≡ opened_of file
+      (m : ℕ) → Some m ≡ u32_at file 0 → m ≡ 0x4753594d → on_version file (u16_at file 4) ≡ opened_of file
   unfolding opened_of on_magic
   magic-right m e h = rw (← e, eq-eqb _ _ h)
 
-  pub magic-wrong : (m : ℕ) → r32.Value m ≡ u32_at file 0 → (m ≡ 0x4753594d → ⊥) → Refused 3 ≡ opened_of file
+  pub magic-wrong : (m : ℕ) → Some m ≡ u32_at file 0 → (m ≡ 0x4753594d → ⊥) → Err 3 ≡ opened_of file
   unfolding opened_of on_magic
   magic-wrong m e h = rw (← e, ne_eqb _ _ h)
 
-  pub magic-short : r32.Unread ≡ u32_at file 0 → Refused 2 ≡ opened_of file
+  pub magic-short : None ≡ u32_at file 0 → Err 2 ≡ opened_of file
   unfolding opened_of on_magic
   magic-short e = rw (← e)
 
   -- version
-  pub version-right : (v : ℕ) → r16.Value v ≡ u16_at file 4 → v ≡ 1 → after_version file ≡ on_version file (u16_at file 4)
+  pub version-right : (v : ℕ) → Some v ≡ u16_at file 4 → v ≡ 1 → after_version file ≡ on_version file (u16_at file 4)
   unfolding on_version
   version-right v e h = rw (← e, eq-eqb _ _ h)
 
-  pub version-wrong : (v : ℕ) → r16.Value v ≡ u16_at file 4 → (v ≡ 1 → ⊥) → Refused 4 ≡ on_version file (u16_at file 4)
+  pub version-wrong : (v : ℕ) → Some v ≡ u16_at file 4 → (v ≡ 1 → ⊥) → Err 4 ≡ on_version file (u16_at file 4)
   unfolding on_version
   version-wrong v e h = rw (← e, ne_eqb _ _ h)
 
-  pub version-short : r16.Unread ≡ u16_at file 4 → Refused 2 ≡ on_version file (u16_at file 4)
+  pub version-short : None ≡ u16_at file 4 → Err 2 ≡ on_version file (u16_at file 4)
   unfolding on_version
   version-short e = rw (← e)
 
@@ -59,13 +56,13 @@ module _ (file : List ℕ) where
   unfolding after_version
   header-there h = rw (le-leb _ _ h)
 
-  pub header-short : length file < 48 → Refused 2 ≡ after_version file
+  pub header-short : length file < 48 → Err 2 ≡ after_version file
   unfolding after_version
   header-short h = rw (lt-leb _ _ h)
 
   -- the tables
   module _ (h : Header) where
-    pub offsets-short : length file < files_place h → Refused 2 ≡ tables_of file h
+    pub offsets-short : length file < files_place h → Err 2 ≡ tables_of file h
     unfolding tables_of
     offsets-short l = rw (lt-leb _ _ l)
 
@@ -75,22 +72,22 @@ module _ (file : List ℕ) where
     offsets-there n l e = rw (le-leb _ _ l, e)
 
     module _ (n : ℕ) (l : files_place h ≤ length file) (e : n ≡ num_at 4 file (file_count_place h)) where
-      pub files-short : length file < files_place h + n * 8 → Refused 2 ≡ tables_of file h
+      pub files-short : length file < files_place h + n * 8 → Err 2 ≡ tables_of file h
       unfolding with_files
       files-short s =
-          let q : Refused 2 ≡ with_files file h n = rw (lt-leb _ _ s) in q ∙ offsets-there n l e
+          let q : Err 2 ≡ with_files file h n = rw (lt-leb _ _ s) in q ∙ offsets-there n l e
 
       pub strings-short : files_place h + n * 8 ≤ length file → length file < h.strings_offset + h.strings_size
-          → Refused 2 ≡ tables_of file h
+          → Err 2 ≡ tables_of file h
       unfolding with_files
       strings-short f s =
-          let q : Refused 2 ≡ with_files file h n = rw (le-leb _ _ f, lt-leb _ _ s) in q ∙ offsets-there n l e
+          let q : Err 2 ≡ with_files file h n = rw (le-leb _ _ f, lt-leb _ _ s) in q ∙ offsets-there n l e
 
       pub all_there : files_place h + n * 8 ≤ length file → h.strings_offset + h.strings_size ≤ length file
-          → Is (tables_with h n) ≡ tables_of file h
+          → Ok (tables_with h n) ≡ tables_of file h
       unfolding with_files
       all_there f s =
-          let q : Is (tables_with h n) ≡ with_files file h n = rw (le-leb _ _ f, le-leb _ _ s) in q ∙ offsets-there n l e
+          let q : Ok (tables_with h n) ≡ with_files file h n = rw (le-leb _ _ f, le-leb _ _ s) in q ∙ offsets-there n l e
 
 -- the address table's size
 pub product_small : (count size : ℕ) → count < 2 ^ 32 → size < 2 ^ 8 → count * size ≤ 2 ^ 32 * 2 ^ 8

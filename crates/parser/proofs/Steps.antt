@@ -1,12 +1,9 @@
 -- One item: each way out of the code is the case of its definition; an item's next place is past it and in the file.
 -- Assumes nothing.
-use Rattle.std.proofs.Common.{◌≡◌, ℕ, ◌+◌, ◌<◌, ◌≤◌, Bool, true, false, eqb, List, length, sym, refl, ap, ◌∙◌, ⊎_elim, arith, eq-eqb, ne_eqb, le-leb}
+use Rattle.std.proofs.Common.{Option, Some, None, ◌≡◌, ℕ, ◌+◌, ◌<◌, ◌≤◌, Bool, true, false, eqb, List, length, sym, refl, ◌∙◌, ⊎_elim, arith, eq-eqb, ne_eqb, le-leb}
 use borrow.Author.Tests.{lt-leb, eqb-false}
 use Rattle.reads.specs.Pick.{pick}
-use Rattle.reads.specs.Bytes.{Fixed, value, unread, le_at}
-use Rattle.reads.specs.Answers.{as32, u32_at}
-use Rattle.reads.specs.declared.Read32.{Read32}
-use Rattle.reads.specs.declared.Read32.TheVariants as r32
+use Rattle.reads.specs.Answers.{u32_at}
 use Rattle.std.proofs.lemmas.Bool.{cases_lt}
 use Rattle.reads.proofs.Places.{within}
 use Rattle.parser.specs.declared.Item.TheVariants.{Is, Closed, Torn}
@@ -15,42 +12,38 @@ use Rattle.parser.proofs.Fields.{never}
 
 module _ (file : List ℕ) (at : ℕ) where
   -- by the type
-  pub kind-zero : (k : ℕ) → r32.Value k ≡ u32_at file at → k ≡ 0 → Closed ≡ item_at file at
+  pub kind-zero : (k : ℕ) → Some k ≡ u32_at file at → k ≡ 0 → Closed ≡ item_at file at
   unfolding item_at on_kind
   kind-zero k e z = rw (← e, eq-eqb _ _ z)
 
   pub kind-other :
-      (k : ℕ) → r32.Value k ≡ u32_at file at → (k ≡ 0 → ⊥) →
+      (k : ℕ) → Some k ≡ u32_at file at → (k ≡ 0 → ⊥) →
       on_len file at k (u32_at file (at + 4)) ≡ item_at file at
   unfolding item_at on_kind
   kind-other k e z = rw (← e, ne_eqb _ _ z)
 
-  pub kind-unread : r32.Unread ≡ u32_at file at → Torn ≡ item_at file at
+  pub kind-unread : None ≡ u32_at file at → Torn ≡ item_at file at
   unfolding item_at on_kind
   kind-unread e = rw (← e)
 
-  read_as : (f : Fixed) (v : ℕ) → r32.Value v ≡ as32 f → f ≡ value v
-  read_as (value w) v e = let q : w ≡ v = cc in ap value q
-  read_as unread v e = let z : ◌≡◌ {A = ℕ} 0 1 = cc in never z
-
   -- a number that was read lies within the file
-  pub read-within : (v : ℕ) → r32.Value v ≡ u32_at file at → at + 4 ≤ length file
+  pub read-within : (v : ℕ) → Some v ≡ u32_at file at → at + 4 ≤ length file
   unfolding u32_at
-  read-within v e = within file at 4 v (omega arith) (read_as (le_at 4 file at) v e)
+  read-within v e = within file at 4 v (omega arith) (sym e)
 
 -- by the length
 module _ (file : List ℕ) (at kind : ℕ) where
-  pub item-fits : (n : ℕ) → r32.Value n ≡ u32_at file (at + 4) → at + 8 + n ≤ length file
+  pub item-fits : (n : ℕ) → Some n ≡ u32_at file (at + 4) → at + 8 + n ≤ length file
       → Is kind (at + 8) n (at + 8 + n) ≡ on_len file at kind (u32_at file (at + 4))
   unfolding on_len
   item-fits n e h = rw (← e, le-leb _ _ h)
 
-  pub item-torn : (n : ℕ) → r32.Value n ≡ u32_at file (at + 4) → length file < at + 8 + n
+  pub item-torn : (n : ℕ) → Some n ≡ u32_at file (at + 4) → length file < at + 8 + n
       → Torn ≡ on_len file at kind (u32_at file (at + 4))
   unfolding on_len
   item-torn n e h = rw (← e, lt-leb _ _ h)
 
-  pub item-unread : r32.Unread ≡ u32_at file (at + 4) → Torn ≡ on_len file at kind (u32_at file (at + 4))
+  pub item-unread : None ≡ u32_at file (at + 4) → Torn ≡ on_len file at kind (u32_at file (at + 4))
   unfolding on_len
   item-unread e = rw (← e)
 
@@ -69,10 +62,10 @@ module _ (file : List ℕ) (at kind place len next : ℕ) where
   closed_is e = let z : ◌≡◌ {A = ℕ} 0 1 = cc in never z
 
   len-ahead :
-      (k : ℕ) (r : Read32) → (k ≡ 0 → ⊥) → on_len file at k r ≡ Is kind place len next →
+      (k : ℕ) (r : Option ℕ) → (k ≡ 0 → ⊥) → on_len file at k r ≡ Is kind place len next →
       Ahead file at kind place len next
   unfolding on_len
-  len-ahead k (r32.Value n) z e =
+  len-ahead k (Some n) z e =
       ⊎_elim
       (λ (l : length file < at + 8 + n).
       let f : Torn ≡ Is kind place len next = simp (lt-leb _ _ l) at e in torn-is f)
@@ -84,17 +77,17 @@ module _ (file : List ℕ) (at kind place len next : ℕ) where
       let d : at + 8 + n ≡ next = cc in
       record { kind-not-zero = λ q. z (a ∙ q); place_is = sym b; next-is = omega arith; inside = omega arith })
       (cases_lt (length file) (at + 8 + n))
-  len-ahead k r32.Unread z e = torn-is e
+  len-ahead k None z e = torn-is e
 
-  kind-ahead : (r : Read32) → on_kind file at r ≡ Is kind place len next → Ahead file at kind place len next
+  kind-ahead : (r : Option ℕ) → on_kind file at r ≡ Is kind place len next → Ahead file at kind place len next
   unfolding on_kind
-  kind-ahead (r32.Value k) e = go (eqb k 0) refl e
+  kind-ahead (Some k) e = go (eqb k 0) refl e
     where
       go : (b : Bool) → eqb k 0 ≡ b → pick b Closed (on_len file at k (u32_at file (at + 4))) ≡ Is kind place len next
           → Ahead file at kind place len next
       go true q f = closed_is f
       go false q f = len-ahead k (u32_at file (at + 4)) (eqb-false k 0 q) f
-  kind-ahead r32.Unread e = torn-is e
+  kind-ahead None e = torn-is e
 
   pub item-ahead : item_at file at ≡ Is kind place len next → Ahead file at kind place len next
   unfolding item_at

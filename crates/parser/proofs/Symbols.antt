@@ -1,10 +1,9 @@
 -- The entry that is chosen for an address in a file: what it is, its symbol's address, and where there is none.
 -- Assumes nothing.
-use Rattle.std.proofs.Common.{◌≡◌, ℕ, ◌+◌, ◌-◌, ◌^◌, ◌<◌, ◌≤◌, Bool, true, false, List, length, get_or, drop, sym, refl, ◌∙◌, ⊎_elim, mod-eq_of_lt, arith, le-ltb, lt-ltb}
+use Rattle.std.proofs.Common.{Some, None, ◌≡◌, ℕ, ◌+◌, ◌-◌, ◌^◌, ◌<◌, ◌≤◌, Bool, true, false, List, length, get_or, drop, sym, refl, ◌∙◌, ⊎_elim, mod-eq_of_lt, arith, le-ltb, lt-ltb}
 use Rattle.std.proofs.lemmas.Bool.{cases_lt}
 use Rattle.types.specs.declared.Address.{Address}
 use Rattle.parser.specs.declared.Tables.{Tables}
-use Rattle.parser.specs.declared.Found.TheVariants.{At, Unknown}
 use Rattle.parser.specs.Header.{Within}
 use Rattle.parser.specs.Search.{is_width, table_of, find_in, find_of, Chosen, Nowhere}
 use Rattle.parser.specs.Search.{below-base, other-size, no-entries, first_above}
@@ -21,12 +20,12 @@ module _ (file : List ℕ) (t : Tables) (addr : Address) where
   unfolding find_of
   find-in-table h = rw (le-ltb _ _ h)
 
-  pub find-below-base : addr.0 < t.base.0 → find_of file t addr ≡ Unknown
+  pub find-below-base : addr.0 < t.base.0 → find_of file t addr ≡ None
   unfolding find_of
   find-below-base h = rw (lt-ltb _ _ h)
 
   -- the chosen entry
-  module _ (i : ℕ) (e : find_of file t addr ≡ At i) where
+  module _ (i : ℕ) (e : find_of file t addr ≡ Some i) where
     pub find-base : t.base.0 ≤ addr.0
     find-base =
         ⊎_elim
@@ -64,7 +63,7 @@ module _ (file : List ℕ) (t : Tables) (addr : Address) where
       go true q = no-entries (sym (table-full file t w q) ∙ e)
       go false q = other-size q
 
-  pub find-unknown : Within file t → find_of file t addr ≡ Unknown → Nowhere file t addr
+  pub find-unknown : Within file t → find_of file t addr ≡ None → Nowhere file t addr
   find-unknown w e =
       ⊎_elim
       (λ (l : addr.0 < t.base.0). below-base l)
@@ -75,14 +74,14 @@ module _ (file : List ℕ) (t : Tables) (addr : Address) where
       (unknown-why (table_of file t) (addr.0 - t.base.0) (sym (find-in-table l) ∙ e)))
       (cases_lt addr.0 t.base.0)
 
-  empty-unknown : length (table_of file t) ≡ 0 → find_of file t addr ≡ Unknown
+  empty-unknown : length (table_of file t) ≡ 0 → find_of file t addr ≡ None
   empty-unknown e =
       ⊎_elim
       (λ (l : addr.0 < t.base.0). find-below-base l)
       (λ (l : t.base.0 ≤ addr.0). find-in-table l ∙ sym (find-empty (table_of file t) (addr.0 - t.base.0) e))
       (cases_lt addr.0 t.base.0)
 
-  pub unknown-find : Nowhere file t addr → find_of file t addr ≡ Unknown
+  pub unknown-find : Nowhere file t addr → find_of file t addr ≡ None
   unknown-find (below-base h) = find-below-base h
   unknown-find (other-size h) = empty-unknown (table_none file t h)
   unknown-find (no-entries h) =

@@ -1,7 +1,7 @@
 -- The address table as a list: its length and its entries.
 -- Assumes nothing.
 use Rattle.std.proofs.Common.{◌≡◌, ℕ, zero, suc, ◌+◌, ◌*◌, ◌<◌, ◌≤◌, Bool, true, false, leb, ◌⊎◌, List, length, get_or, drop, refl, ap, ◌∙◌, inl, inr, mul-le-mul_right, add-mul, arith, drop-drop, ne_eqb, eqb-true, le-leb, leb-true}
-use borrow.Author.Tests.{lt-leb}
+use Rattle.std.proofs.lemmas.Bool.{lt-leb}
 use Rattle.reads.specs.Pick.{pick}
 use Rattle.parser.specs.Numbers.{num_at}
 use Rattle.parser.specs.declared.Tables.{Tables}

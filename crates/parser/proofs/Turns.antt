@@ -1,14 +1,12 @@
 -- The search on the table in place: each turn of the code is a turn of the search on the list, and each way out its
 -- case.
 -- Assumes nothing.
-use Rattle.std.proofs.Common.{◌≡◌, ℕ, ◌+◌, ◌-◌, ◌*◌, ◌/◌, ◌^◌, ◌<◌, ◌≤◌, Bool, true, false, leb, List, length, get_or, drop, sym, refl, ap, ◌∙◌, ⊎_elim, arith, le-ltb, lt-ltb, le-leb}
-use borrow.Author.Tests.{lt-leb}
+use Rattle.std.proofs.Common.{Some, None, ◌≡◌, ℕ, ◌+◌, ◌-◌, ◌*◌, ◌/◌, ◌^◌, ◌<◌, ◌≤◌, Bool, true, false, leb, List, length, get_or, drop, sym, refl, ap, ◌∙◌, ⊎_elim, arith, le-ltb, lt-ltb, le-leb}
 use Rattle.reads.specs.Pick.{pick}
-use Rattle.std.proofs.lemmas.Bool.{cases_lt}
+use Rattle.std.proofs.lemmas.Bool.{cases_lt, lt-leb}
 use Rattle.types.specs.declared.Address.{Address}
 use Rattle.parser.specs.Numbers.{num_at}
 use Rattle.parser.specs.declared.Tables.{Tables}
-use Rattle.parser.specs.declared.Found.TheVariants.{At, Unknown}
 use Rattle.parser.specs.Search.{chosen_from, find_in, len_of, entries, table_of, find_of}
 use Rattle.parser.proofs.Table.{length-entries, entry-is}
 use Rattle.parser.proofs.Halving.{moved, chosen-from-end, chosen-from-turn, find-empty, find-above, find_at}
@@ -87,21 +85,21 @@ module _ (size n : ℕ) (bytes : List ℕ) (wanted : ℕ) where
           where_to (leb e wanted) m ∙ ap (λ x. pick (leb x wanted) (lo + len / 2) lo) q
 
   -- no entries, or the first above
-  pub none : n ≡ 0 → Unknown ≡ find_in (entries size n bytes) wanted
+  pub none : n ≡ 0 → None ≡ find_in (entries size n bytes) wanted
   none h = find-empty (entries size n bytes) wanted (length-entries size n bytes ∙ h)
 
   first-is : (e : ℕ) → (n ≡ 0 → ⊥) → e ≡ num_at size bytes (0 * size) → e ≡ get_or (entries size n bytes) 0 0
   first-is e h r = r ∙ sym (entry-is size n 0 bytes (omega arith))
 
   pub starts-above : (e : ℕ) → (n ≡ 0 → ⊥) → e ≡ num_at size bytes (0 * size) → wanted < e
-      → Unknown ≡ find_in (entries size n bytes) wanted
+      → None ≡ find_in (entries size n bytes) wanted
   starts-above e h r l =
       find-above (entries size n bytes) wanted (λ z. h (sym (length-entries size n bytes) ∙ z))
       (omega (arith, first-is e h r))
 
   pub ended :
       (e lo len : ℕ) → (n ≡ 0 → ⊥) → e ≡ num_at size bytes (0 * size) → e ≤ wanted → len ≤ 1 → Sofar lo len →
-      At lo ≡ find_in (entries size n bytes) wanted
+      Some lo ≡ find_in (entries size n bytes) wanted
   ended e lo len h r l m s =
       find_at (entries size n bytes) wanted lo (λ z. h (sym (length-entries size n bytes) ∙ z))
       (omega (arith, first-is e h r))
@@ -110,7 +108,7 @@ module _ (size n : ℕ) (bytes : List ℕ) (wanted : ℕ) where
 
 -- the address above the base or not
 module _ (file : List ℕ) (t : Tables) (addr : Address) where
-  pub base_above : addr.0 < t.base.0 → Unknown ≡ find_of file t addr
+  pub base_above : addr.0 < t.base.0 → None ≡ find_of file t addr
   unfolding find_of
   base_above h = rw (lt-ltb _ _ h)
 

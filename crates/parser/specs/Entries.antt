@@ -7,20 +7,14 @@
 --   file table       per file:  directory 4, file name 4, offsets in the string table
 --
 -- Assumes nothing.
-use Rattle.std.specs.Prelude.{ℕ, ◌+◌, ◌-◌, ◌*◌, ◌%◌, ◌^◌, Bool, true, false, List, drop, ◌==◌, nat_lt, slice_index}
+use Rattle.std.specs.Prelude.{ℕ, ◌+◌, ◌-◌, ◌*◌, ◌%◌, ◌^◌, Bool, true, false, List, Option, Some, None, drop, ◌==◌, nat_lt, slice_index}
 use Rattle.reads.specs.Pick.{pick}
 use Rattle.reads.specs.Answers.{u32_at}
-use Rattle.reads.specs.declared.Read32.{Read32}
-use Rattle.reads.specs.declared.Read32.TheVariants as r32
 use Rattle.types.specs.declared.Address.{Address}
 use Rattle.types.specs.declared.FileIndex.{FileIndex}
 use Rattle.parser.specs.declared.Tables.{Tables}
-use Rattle.parser.specs.declared.InfoRead.{InfoRead}
-use Rattle.parser.specs.declared.InfoRead.TheVariants as info
-use Rattle.parser.specs.declared.FileRead.{FileRead}
-use Rattle.parser.specs.declared.FileRead.TheVariants as row
-use Rattle.parser.specs.declared.fixed.Pair.{Pair}
-use Rattle.parser.specs.declared.fixed.Pair.TheVariants as pair
+use Rattle.parser.specs.declared.AddrInfo.{AddrInfo}
+use Rattle.parser.specs.declared.FileInfo.{FileInfo}
 use Rattle.parser.specs.Numbers.{pair_at}
 use Rattle.parser.specs.Search.{table_of}
 
@@ -29,23 +23,23 @@ unfoldable pub symbol_at : List ℕ → Tables → ℕ → Address
 symbol_at file t i = record { 0 = (t.base.0 + slice_index (table_of file t) i) % 2 ^ 64 }
 
 -- the data offset of an entry
-unfoldable pub offset_at : List ℕ → Tables → ℕ → Read32
-offset_at file t i = pick (nat_lt i t.count) (u32_at (drop t.offsets file) (i * 4)) r32.Unread
+unfoldable pub offset_at : List ℕ → Tables → ℕ → Option ℕ
+offset_at file t i = pick (nat_lt i t.count) (u32_at (drop t.offsets file) (i * 4)) None
 
 -- size and name at a place, and the place of the first item: fewer than 8 bytes there don't read
-abbrev pub as_info : ℕ → Pair → InfoRead
-as_info at (pair.Is size name) = info.Is (record { size = size; name = record { 0 = name }; items = at + 8 })
-as_info at pair.Unread = info.Unread
+abbrev pub as_info : ℕ → Option (ℕ × ℕ) → Option AddrInfo
+as_info at (Some (size, name)) = Some (record { size = size; name = record { 0 = name }; items = at + 8 })
+as_info at None = None
 
-unfoldable pub info_in : List ℕ → ℕ → InfoRead
+unfoldable pub info_in : List ℕ → ℕ → Option AddrInfo
 info_in file at = as_info at (pair_at file at)
 
 -- size and name of an entry
-unfoldable pub on_offset : List ℕ → Read32 → InfoRead
-on_offset file (r32.Value at) = info_in file at
-on_offset file r32.Unread = info.Unread
+unfoldable pub on_offset : List ℕ → Option ℕ → Option AddrInfo
+on_offset file (Some at) = info_in file at
+on_offset file None = None
 
-unfoldable pub info_at : List ℕ → Tables → ℕ → InfoRead
+unfoldable pub info_at : List ℕ → Tables → ℕ → Option AddrInfo
 info_at file t i = on_offset file (offset_at file t i)
 
 -- whether a symbol covers an address: size 0 everything from the symbol's address on
@@ -54,10 +48,10 @@ covered_by addr symbol size =
     pick (nat_lt addr.0 symbol.0) false (pick (size == 0) true (nat_lt (addr.0 - symbol.0) size))
 
 -- directory and file name at an index below the file count
-abbrev pub as_file : Pair → FileRead
-as_file (pair.Is dir name) = row.Is (record { directory = record { 0 = dir }; filename = record { 0 = name } })
-as_file pair.Unread = row.Unread
+abbrev pub as_file : Option (ℕ × ℕ) → Option FileInfo
+as_file (Some (dir, name)) = Some (record { directory = record { 0 = dir }; filename = record { 0 = name } })
+as_file None = None
 
-unfoldable pub file_at : List ℕ → Tables → FileIndex → FileRead
+unfoldable pub file_at : List ℕ → Tables → FileIndex → Option FileInfo
 file_at file t index =
-    pick (nat_lt index.0 t.file_count) (as_file (pair_at (drop t.files file) (index.0 * 8))) row.Unread
+    pick (nat_lt index.0 t.file_count) (as_file (pair_at (drop t.files file) (index.0 * 8))) None

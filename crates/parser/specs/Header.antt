@@ -17,16 +17,10 @@
 --           files · 8              file table: directory, file name
 --
 -- Assumes nothing.
-use Rattle.std.specs.Prelude.{◌≡◌, ℕ, ◌+◌, ◌*◌, ◌/◌, ◌≤◌, List, length, ◌==◌, nat_le}
+use Rattle.std.specs.Prelude.{◌≡◌, ℕ, ◌+◌, ◌*◌, ◌/◌, ◌≤◌, List, Option, Some, None, Result, Ok, Err, length, ◌==◌, nat_le}
 use Rattle.reads.specs.Pick.{pick}
 use Rattle.reads.specs.Answers.{u16_at, u32_at}
-use Rattle.reads.specs.declared.Read16.{Read16}
-use Rattle.reads.specs.declared.Read16.TheVariants as r16
-use Rattle.reads.specs.declared.Read32.{Read32}
-use Rattle.reads.specs.declared.Read32.TheVariants as r32
 use Rattle.parser.specs.declared.Tables.{Tables}
-use Rattle.parser.specs.declared.Opened.{Opened}
-use Rattle.parser.specs.declared.Opened.TheVariants.{Is, Refused}
 use Rattle.parser.specs.declared.opening.Header.{Header}
 use Rattle.parser.specs.Numbers.{num_at}
 
@@ -68,32 +62,32 @@ tables_with h n = record {
 }
 
 -- the file table and the string table lie in the file, or too few bytes are there
-unfoldable pub with_files : List ℕ → Header → ℕ → Opened
+unfoldable pub with_files : List ℕ → Header → ℕ → Result Tables ℕ
 with_files file h n =
     pick (nat_le (files_place h + n * 8) (length file))
-    (pick (nat_le (h.strings_offset + h.strings_size) (length file)) (Is (tables_with h n)) (Refused 2))
-    (Refused 2)
+    (pick (nat_le (h.strings_offset + h.strings_size) (length file)) (Ok (tables_with h n)) (Err 2))
+    (Err 2)
 
 -- the address table, the data offsets and the file count lie in the file, or too few bytes are there
-unfoldable pub tables_of : List ℕ → Header → Opened
+unfoldable pub tables_of : List ℕ → Header → Result Tables ℕ
 tables_of file h =
-    pick (nat_le (files_place h) (length file)) (with_files file h (num_at 4 file (file_count_place h))) (Refused 2)
+    pick (nat_le (files_place h) (length file)) (with_files file h (num_at 4 file (file_count_place h))) (Err 2)
 
 -- the header lies in the file, or too few bytes are there
-unfoldable pub after_version : List ℕ → Opened
-after_version file = pick (nat_le 48 (length file)) (tables_of file (numbers_of file)) (Refused 2)
+unfoldable pub after_version : List ℕ → Result Tables ℕ
+after_version file = pick (nat_le 48 (length file)) (tables_of file (numbers_of file)) (Err 2)
 
 -- version is judged once 6 bytes are there
-unfoldable pub on_version : List ℕ → Read16 → Opened
-on_version file (r16.Value version) = pick (version == 1) (after_version file) (Refused 4)
-on_version file r16.Unread = Refused 2
+unfoldable pub on_version : List ℕ → Option ℕ → Result Tables ℕ
+on_version file (Some version) = pick (version == 1) (after_version file) (Err 4)
+on_version file None = Err 2
 
 -- magic is judged once 4 bytes are there
-unfoldable pub on_magic : List ℕ → Read32 → Opened
-on_magic file (r32.Value magic) = pick (magic == 0x4753594d) (on_version file (u16_at file 4)) (Refused 3)
-on_magic file r32.Unread = Refused 2
+unfoldable pub on_magic : List ℕ → Option ℕ → Result Tables ℕ
+on_magic file (Some magic) = pick (magic == 0x4753594d) (on_version file (u16_at file 4)) (Err 3)
+on_magic file None = Err 2
 
-unfoldable pub opened_of : List ℕ → Opened
+unfoldable pub opened_of : List ℕ → Result Tables ℕ
 opened_of file = on_magic file (u32_at file 0)
 
 -- ---- what opening is held to

@@ -5,24 +5,22 @@
 --   bytes     that many
 --
 -- Assumes nothing.
-use Rattle.std.specs.Prelude.{ℕ, ◌+◌, List, length, ◌==◌, nat_le}
+use Rattle.std.specs.Prelude.{ℕ, ◌+◌, List, Option, Some, None, length, ◌==◌, nat_le}
 use Rattle.reads.specs.Pick.{pick}
 use Rattle.reads.specs.Answers.{u32_at}
-use Rattle.reads.specs.declared.Read32.{Read32}
-use Rattle.reads.specs.declared.Read32.TheVariants as r32
 use Rattle.parser.specs.declared.Item.{Item}
 use Rattle.parser.specs.declared.Item.TheVariants.{Is, Closed, Torn}
 
 -- an item of a type at a place, by what is read for its length: its bytes fit, or it is torn
-unfoldable pub on_len : List ℕ → ℕ → ℕ → Read32 → Item
-on_len file at kind (r32.Value len) =
+unfoldable pub on_len : List ℕ → ℕ → ℕ → Option ℕ → Item
+on_len file at kind (Some len) =
     pick (nat_le (at + 8 + len) (length file)) (Is kind (at + 8) len (at + 8 + len)) Torn
-on_len file at kind r32.Unread = Torn
+on_len file at kind None = Torn
 
 -- by what is read for its type: 0 closes the list
-unfoldable pub on_kind : List ℕ → ℕ → Read32 → Item
-on_kind file at (r32.Value kind) = pick (kind == 0) Closed (on_len file at kind (u32_at file (at + 4)))
-on_kind file at r32.Unread = Torn
+unfoldable pub on_kind : List ℕ → ℕ → Option ℕ → Item
+on_kind file at (Some kind) = pick (kind == 0) Closed (on_len file at kind (u32_at file (at + 4)))
+on_kind file at None = Torn
 
 -- the item at a place
 unfoldable pub item_at : List ℕ → ℕ → Item

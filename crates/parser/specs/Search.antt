@@ -6,12 +6,10 @@
 -- by halving, so that the answer is settled in every table, also in one that falls, where several entries may fit. The
 -- laws `chosen` and `chosen-unique` give it its meaning.
 -- Assumes nothing.
-use Rattle.std.specs.Prelude.{◌≡◌, ℕ, zero, suc, ◌+◌, ◌-◌, ◌*◌, ◌/◌, ◌<◌, ◌≤◌, Bool, true, false, ◌⊎◌, List, [], ◌∷◌, map, length, drop, ◌==◌, nat_le, nat_lt, slice_index, slice_index_or}
+use Rattle.std.specs.Prelude.{◌≡◌, ℕ, zero, suc, ◌+◌, ◌-◌, ◌*◌, ◌/◌, ◌<◌, ◌≤◌, Bool, true, false, ◌⊎◌, List, [], ◌∷◌, Option, Some, None, map, length, drop, ◌==◌, nat_le, nat_lt, slice_index, slice_index_or}
 use Rattle.reads.specs.Pick.{pick}
 use Rattle.types.specs.declared.Address.{Address}
 use Rattle.parser.specs.declared.Tables.{Tables}
-use Rattle.parser.specs.declared.Found.{Found}
-use Rattle.parser.specs.declared.Found.TheVariants.{At, Unknown}
 use Rattle.parser.specs.Numbers.{num_at}
 
 -- halving: of the len entries from lo on, the one in the middle, unless it is above, is the new lo; at most k turns
@@ -27,10 +25,10 @@ unfoldable pub chosen_from : List ℕ → ℕ → ℕ → ℕ → ℕ
 chosen_from table wanted lo len = halving len table wanted lo len
 
 -- no entries, or the first entry above: unknown
-unfoldable pub find_in : List ℕ → ℕ → Found
+unfoldable pub find_in : List ℕ → ℕ → Option ℕ
 find_in table wanted =
-    pick (length table == 0) Unknown
-    (pick (nat_lt wanted (slice_index table 0)) Unknown (At (chosen_from table wanted 0 (length table))))
+    pick (length table == 0) None
+    (pick (nat_lt wanted (slice_index table 0)) None (Some (chosen_from table wanted 0 (length table))))
 
 -- the offset sizes
 abbrev pub is_width : ℕ → Bool
@@ -53,8 +51,8 @@ table_of file t =
     (drop t.addrs file)
 
 -- the entry of an address: unknown below the base
-unfoldable pub find_of : List ℕ → Tables → Address → Found
-find_of file t addr = pick (nat_lt addr.0 t.base.0) Unknown (find_in (table_of file t) (addr.0 - t.base.0))
+unfoldable pub find_of : List ℕ → Tables → Address → Option ℕ
+find_of file t addr = pick (nat_lt addr.0 t.base.0) None (find_in (table_of file t) (addr.0 - t.base.0))
 
 -- ---- what the search is held to
 
@@ -72,9 +70,9 @@ pub record Chosen (table : List ℕ) (wanted i : ℕ) : Type 0 where
   pub last : (i + 1 ≡ length table) ⊎ (wanted < slice_index table (i + 1))
 
 -- what may be answered: an entry that fits, where the first isn't above; else unknown
-abbrev pub Right : List ℕ → ℕ → Found → Type 0
-Right table wanted (At i) = (slice_index table 0 ≤ wanted) × Chosen table wanted i
-Right table wanted Unknown = (length table ≡ 0) ⊎ (wanted < slice_index table 0)
+abbrev pub Right : List ℕ → ℕ → Option ℕ → Type 0
+Right table wanted (Some i) = (slice_index table 0 ≤ wanted) × Chosen table wanted i
+Right table wanted None = (length table ≡ 0) ⊎ (wanted < slice_index table 0)
 
 -- no entry is below the one before it; each is above the one before it
 abbrev pub NeverFalls : List ℕ → Type 0
@@ -91,12 +89,12 @@ pub record LastNotAbove (table : List ℕ) (wanted i : ℕ) : Type 0 where
 
 -- the last entry of a table that isn't above, one entry after another: what the search comes to in a table that never
 -- falls
-unfoldable pub land_from : ℕ → List ℕ → ℕ → Found → Found
+unfoldable pub land_from : ℕ → List ℕ → ℕ → Option ℕ → Option ℕ
 land_from i [] wanted best = best
-land_from i (e ∷ es) wanted best = land_from (i + 1) es wanted (pick (nat_le e wanted) (At i) best)
+land_from i (e ∷ es) wanted best = land_from (i + 1) es wanted (pick (nat_le e wanted) (Some i) best)
 
-unfoldable pub land_of : List ℕ → ℕ → Found
-land_of table wanted = land_from 0 table wanted Unknown
+unfoldable pub land_of : List ℕ → ℕ → Option ℕ
+land_of table wanted = land_from 0 table wanted None
 
 -- the addresses of the entries: the base plus each
 unfoldable pub addresses_of : List ℕ → Tables → List ℕ

@@ -3,10 +3,9 @@
 ghost use Rattle.std.specs.Prelude.{◌≡◌};
 ghost use Rattle.parser.specs.Entries.{symbol_at, info_in, info_at, covered_by, file_at};
 
-use super::fixed::{Pair, from_place, pair_at};
+use super::fixed::{from_place, pair_at};
 use super::search::{entry_at, table_len};
-use super::{AddrInfo, FileInfo, FileRead, InfoRead, Tables};
-use reads::Read32;
+use super::{AddrInfo, FileInfo, Tables};
 use types::{Address, FileIndex, StrOffset};
 
 // The symbol's address: the base plus entry i, modulo 2^64; an entry that isn't there counts as 0. For an entry that
@@ -14,51 +13,39 @@ use types::{Address, FileIndex, StrOffset};
 pub fn addr_at(file: &[u8], tables: Tables, i: usize) -> Address
     ensures { result ≡ symbol_at file.now tables i }
 {
-    let base = tables.base;
     let size = tables.offset_size;
-    let place = tables.addrs;
-    let table = from_place(file, place);
+    let table = from_place(file, tables.addrs);
     let n = table_len(size, tables.count, table.len());
     if n <= i {
-        return base;
+        return tables.base;
     }
     let entry = entry_at(table, size, i);
-    let sum = std::num::wrapping_add_u64(base.0, entry);
-    Address(sum)
+    Address(tables.base.0.wrapping_add(entry))
 }
 
-// Size and name at the place that data offset i says, counted from the file's start. Unread where fewer than 8 bytes
+// Size and name at the place that data offset i says, counted from the file's start. None where fewer than 8 bytes
 // are there, and where the index is not below the count.
-pub fn addr_info(file: &[u8], tables: Tables, i: usize) -> InfoRead
+pub fn addr_info(file: &[u8], tables: Tables, i: usize) -> Option<AddrInfo>
     ensures { result ≡ info_at file.now tables i }
 {
-    let count = tables.count as usize;
-    let place = tables.offsets;
-    if count <= i {
-        return InfoRead::Unread;
+    if tables.count as usize <= i {
+        return None;
     }
-    let offsets = from_place(file, place);
-    match reads::u32_at(offsets, i * 4) {
-        Read32::Value(offset) => info_in(file, offset as usize),
-        Read32::Unread => InfoRead::Unread,
-    }
+    let offsets = from_place(file, tables.offsets);
+    let offset = reads::u32_at(offsets, i * 4)?;
+    info_in(file, offset as usize)
 }
 
 // Size and name at a place, and the place after them.
-fn info_in(file: &[u8], at: usize) -> InfoRead
+fn info_in(file: &[u8], at: usize) -> Option<AddrInfo>
     ensures { result ≡ info_in file.now at }
 {
-    match pair_at(file, at) {
-        Pair::Is { first, second } => {
-            let items = at + 8;
-            InfoRead::Is(AddrInfo {
-                size: first,
-                name: StrOffset(second),
-                items,
-            })
-        }
-        Pair::Unread => InfoRead::Unread,
-    }
+    let (size, name) = pair_at(file, at)?;
+    Some(AddrInfo {
+        size,
+        name: StrOffset(name),
+        items: at + 8,
+    })
 }
 
 // Whether a symbol covers an address: size 0 covers everything from the symbol's address on, another size that many
@@ -76,22 +63,18 @@ pub fn covers(addr: Address, symbol: Address, size: u32) -> bool
     past < size as u64
 }
 
-// The row of the file table at an index. Unread where the index is not below the file count.
-pub fn file_info(file: &[u8], tables: Tables, index: FileIndex) -> FileRead
+// The row of the file table at an index. None where the index is not below the file count.
+pub fn file_info(file: &[u8], tables: Tables, index: FileIndex) -> Option<FileInfo>
     ensures { result ≡ file_at file.now tables index }
 {
     let i = index.0 as usize;
-    let rows = tables.file_count as usize;
-    let place = tables.files;
-    if rows <= i {
-        return FileRead::Unread;
+    if tables.file_count as usize <= i {
+        return None;
     }
-    let files = from_place(file, place);
-    match pair_at(files, i * 8) {
-        Pair::Is { first, second } => FileRead::Is(FileInfo {
-            directory: StrOffset(first),
-            filename: StrOffset(second),
-        }),
-        Pair::Unread => FileRead::Unread,
-    }
+    let files = from_place(file, tables.files);
+    let (directory, filename) = pair_at(files, i * 8)?;
+    Some(FileInfo {
+        directory: StrOffset(directory),
+        filename: StrOffset(filename),
+    })
 }

@@ -31,20 +31,6 @@ pub struct Tables {
     pub strings: StrTable,
 }
 
-// A file's tables, or the refusal number 2, 3 or 4.
-#[derive(Clone, Copy)]
-pub enum Opened {
-    Is(Tables),
-    Refused(u8),
-}
-
-// The index of an entry of the address table.
-#[derive(Clone, Copy)]
-pub enum Found {
-    At(usize),
-    Unknown,
-}
-
 // What an entry says of its symbol, and the place of its first item.
 #[derive(Clone, Copy)]
 pub struct AddrInfo {
@@ -53,22 +39,11 @@ pub struct AddrInfo {
     pub items: usize,
 }
 
-#[derive(Clone, Copy)]
-pub enum InfoRead {
-    Is(AddrInfo),
-    Unread,
-}
-
+// A row of the file table.
 #[derive(Clone, Copy)]
 pub struct FileInfo {
     pub directory: StrOffset,
     pub filename: StrOffset,
-}
-
-#[derive(Clone, Copy)]
-pub enum FileRead {
-    Is(FileInfo),
-    Unread,
 }
 
 // An item of the address data list: its type, the place and the length of its bytes, and the place of the next item.

@@ -1,12 +1,10 @@
 // The header and where the tables stand (document 01, "Header and tables"), in three stages: magic and version, the
 // header's numbers, the tables.
 ghost use Rattle.std.specs.Prelude.{◌≡◌, ◌≤◌, length};
-ghost use Rattle.reads.specs.Answers.{u16_at};
-ghost use Rattle.parser.specs.Header.{numbers_of, tables_of, after_version, on_version, opened_of};
+ghost use Rattle.parser.specs.Header.{numbers_of, tables_of, opened_of};
 
+use super::Tables;
 use super::fixed::{num8, num32, num64};
-use super::{Opened, Tables};
-use reads::{Read16, Read32};
 use strtab::StrTable;
 use types::Address;
 
@@ -22,50 +20,25 @@ pub(crate) struct Header {
 
 // The file's tables. Refused: a wrong magic, judged once 4 bytes are there, is 3; a version other than 1, judged once
 // 6 are, is 4; too few bytes for the header, a table or the string table is 2.
-pub fn parse_header(file: &[u8]) -> Opened
+pub fn parse_header(file: &[u8]) -> Result<Tables, u8>
     ensures { result ≡ opened_of file.now }
 {
-    match reads::u32_at(file, 0) {
-        Read32::Value(magic) => {
-            if magic == types::MAGIC {
-                judge_version(file)
-            } else {
-                Opened::Refused(types::WRONG_MAGIC)
-            }
-        }
-        Read32::Unread => Opened::Refused(types::TOO_FEW_BYTES),
+    let magic = reads::u32_at(file, 0).ok_or(types::TOO_FEW_BYTES)?;
+    if magic != types::MAGIC {
+        return Err(types::WRONG_MAGIC);
     }
+    let version = reads::u16_at(file, 4).ok_or(types::TOO_FEW_BYTES)?;
+    if version != types::VERSION {
+        return Err(types::WRONG_VERSION);
+    }
+    if file.len() < types::HEADER_LEN {
+        return Err(types::TOO_FEW_BYTES);
+    }
+    let header = header_numbers(file);
+    place_tables(file, header)
 }
 
-// What is left once the magic number is right.
-fn judge_version(file: &[u8]) -> Opened
-    ensures { result ≡ on_version file.now (u16_at file.now 4) }
-{
-    match reads::u16_at(file, 4) {
-        Read16::Value(version) => {
-            if version == types::VERSION {
-                after_version(file)
-            } else {
-                Opened::Refused(types::WRONG_VERSION)
-            }
-        }
-        Read16::Unread => Opened::Refused(types::TOO_FEW_BYTES),
-    }
-}
-
-// What is left once the version is right.
-fn after_version(file: &[u8]) -> Opened
-    ensures { result ≡ after_version file.now }
-{
-    if types::HEADER_LEN <= file.len() {
-        let header = header_numbers(file);
-        place_tables(file, header)
-    } else {
-        Opened::Refused(types::TOO_FEW_BYTES)
-    }
-}
-
-// The numbers of a header that `after_version` has seen to be there.
+// The numbers of a header that `parse_header` has seen to be there.
 fn header_numbers(file: &[u8]) -> Header
     requires { 48 ≤ length file.now }
     ensures { result ≡ numbers_of file.now }
@@ -86,7 +59,7 @@ fn header_numbers(file: &[u8]) -> Header
 
 // Where the tables stand. No sum wraps: the count is below 2^32 and an entry below 2^8 bytes, so the address table ends
 // below 2^40 + 48; data offsets and files add less than 2^34 and 2^35, and the largest sum, `files_end`, is below 2^41.
-fn place_tables(file: &[u8], header: Header) -> Opened
+fn place_tables(file: &[u8], header: Header) -> Result<Tables, u8>
     ensures { result ≡ tables_of file.now header }
 {
     let size = header.offset_size as usize;
@@ -96,24 +69,23 @@ fn place_tables(file: &[u8], header: Header) -> Opened
     let offsets_end = offsets + count * 4;
     let files = offsets_end + 4;
     if file.len() < files {
-        return Opened::Refused(types::TOO_FEW_BYTES);
+        return Err(types::TOO_FEW_BYTES);
     }
     let file_count = num32(file, offsets_end);
     let rows = file_count as usize;
     let files_end = files + rows * 8;
     if file.len() < files_end {
-        return Opened::Refused(types::TOO_FEW_BYTES);
+        return Err(types::TOO_FEW_BYTES);
     }
-    let base = header.base;
     let place = header.strings_offset as usize;
     let len = header.strings_size as usize;
     let strings_end = place + len;
     if file.len() < strings_end {
-        return Opened::Refused(types::TOO_FEW_BYTES);
+        return Err(types::TOO_FEW_BYTES);
     }
-    Opened::Is(Tables {
+    Ok(Tables {
         offset_size: header.offset_size,
-        base,
+        base: header.base,
         count: header.count,
         addrs: types::HEADER_LEN,
         offsets,

@@ -4,23 +4,21 @@ ghost use Rattle.reads.specs.Pick.{pick};
 ghost use Rattle.parser.specs.Numbers.{num_at};
 ghost use Rattle.parser.specs.Search.{is_width, len_of, entries, find_in, find_of};
 
+use super::Tables;
 use super::fixed::{from_place, num8, num16, num32, num64};
-use super::{Found, Tables};
 use types::Address;
 
-// The entry of the address table that is chosen for an address. Unknown: an address below the base, an offset size
+// The entry of the address table that is chosen for an address. None: an address below the base, an offset size
 // other than 1, 2, 4 or 8, no entries, or a first entry above the address minus the base.
-pub fn find_addr(file: &[u8], tables: Tables, addr: Address) -> Found
+pub fn find_addr(file: &[u8], tables: Tables, addr: Address) -> Option<usize>
     ensures { result ≡ find_of file.now tables addr }
 {
-    let base = tables.base;
-    if addr.0 < base.0 {
-        return Found::Unknown;
+    if addr.0 < tables.base.0 {
+        return None;
     }
-    let wanted = addr.0 - base.0;
+    let wanted = addr.0 - tables.base.0;
     let size = tables.offset_size;
-    let place = tables.addrs;
-    let table = from_place(file, place);
+    let table = from_place(file, tables.addrs);
     let n = table_len(size, tables.count, table.len());
     halve(table, size, n, wanted)
 }
@@ -30,26 +28,19 @@ pub fn find_addr(file: &[u8], tables: Tables, addr: Address) -> Found
 pub(crate) fn table_len(size: u8, count: u32, room: usize) -> usize
     ensures { result ≡ len_of size count room }
 {
-    if is_width(size) {
-        let n = count as usize;
-        let width = size as usize;
-        if n * width <= room { n } else { 0 }
-    } else {
-        0
+    if !is_width(size) {
+        return 0;
     }
+    let n = count as usize;
+    let width = size as usize;
+    if n * width <= room { n } else { 0 }
 }
 
 // Whether an offset size is 1, 2, 4 or 8.
 fn is_width(size: u8) -> bool
     ensures { result ≡ is_width size }
 {
-    match size {
-        1 => true,
-        2 => true,
-        4 => true,
-        8 => true,
-        _ => false,
-    }
+    matches!(size, 1 | 2 | 4 | 8)
 }
 
 // Entry i of a table. The callers ask below a length that `table_len` gave.
@@ -66,16 +57,16 @@ pub(crate) fn entry_at(table: &[u8], size: u8, i: usize) -> u64
 }
 
 // The search: the chosen entry is among the `len` from `lo` on. `find_addr` gives a length that `table_len` gave.
-fn halve(table: &[u8], size: u8, n: usize, wanted: u64) -> Found
+fn halve(table: &[u8], size: u8, n: usize, wanted: u64) -> Option<usize>
     requires { (n * size ≤ length table.now) × (0 < n → is_width size ≡ true) }
     ensures { result ≡ find_in (entries size n table.now) wanted }
 {
     if n == 0 {
-        return Found::Unknown;
+        return None;
     }
     let first = entry_at(table, size, 0);
     if wanted < first {
-        return Found::Unknown;
+        return None;
     }
     let mut lo = 0;
     let mut len = n;
@@ -83,15 +74,15 @@ fn halve(table: &[u8], size: u8, n: usize, wanted: u64) -> Found
         let half = len / 2;
         let entry = entry_at(table, size, lo + half);
         let by = step(size, entry, wanted, half);
-        lo = lo + by;
-        len = len - half;
+        lo += by;
+        len -= half;
     }
-    Found::At(lo)
+    Some(lo)
 }
 
 // How far a turn of the search moves: by half, unless the entry there is above. Which of the two can't be foreseen, so
-// an entry of up to four bytes is compared by a quotient, 1 or 0, and not by a branch. `halve` gives such an entry at
-// every size but 8.
+// an entry of up to four bytes is compared by a quotient, 1 or 0, and not by a branch; a wanted number above those is
+// brought down to the largest of them, which tells no entry apart. `halve` gives such an entry at every size but 8.
 fn step(size: u8, entry: u64, wanted: u64, half: usize) -> usize
     requires { (size ≢ 8) → entry < 2 ^ 32 }
     ensures { result ≡ pick (nat_le entry wanted) half 0 }
@@ -99,19 +90,8 @@ fn step(size: u8, entry: u64, wanted: u64, half: usize) -> usize
     if size == 8 {
         if entry <= wanted { half } else { 0 }
     } else {
-        let near = near_of(wanted);
+        let near = wanted.min(0xffff_ffff);
         let reached = (0x1_0000_0000 + near - entry) / 0x1_0000_0000;
         half * (reached as usize)
-    }
-}
-
-// The number, or the largest of four bytes where it is above that: no entry of up to four bytes tells the two apart.
-fn near_of(wanted: u64) -> u64
-    ensures { (result < 2 ^ 32) × (result ≤ wanted) × (result < 4294967295 → result ≡ wanted) }
-{
-    if wanted < 0x1_0000_0000 {
-        wanted
-    } else {
-        0xffff_ffff
     }
 }

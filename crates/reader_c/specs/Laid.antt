@@ -1,14 +1,11 @@
 -- Answers laid out as C has them.
 -- Assumes nothing.
-use Rattle.std.specs.Prelude.{ℕ}
+use Rattle.std.specs.Prelude.{ℕ, ℤ, Some, None, Ok, Err, Option, Result}
 use Rattle.types.specs.declared.Address.{Address}
 use Rattle.int64.specs.Wrap.{bits_of}
-use Rattle.leb128.specs.declared.Unsigned.{Unsigned}
-use Rattle.leb128.specs.declared.Unsigned.TheVariants as u
-use Rattle.leb128.specs.declared.Signed.{Signed}
-use Rattle.leb128.specs.declared.Signed.TheVariants as z
-use Rattle.linetab.specs.declared.LineRead.{LineRead}
-use Rattle.linetab.specs.declared.LineRead.TheVariants.{Row, Nothing, Short, Wide}
+use Rattle.leb128.specs.declared.Cause.{Cause}
+use Rattle.leb128.specs.declared.Cause.TheVariants.{Short, Wide}
+use Rattle.linetab.specs.declared.LineTableRow.{LineTableRow}
 use Rattle.inline.specs.declared.Listed.{Listed}
 use Rattle.reader_c.specs.declared.NumberAnswer.{NumberAnswer}
 use Rattle.reader_c.specs.declared.LineAnswer.{LineAnswer}
@@ -18,35 +15,34 @@ use Rattle.reader_c.specs.declared.BlockAnswer.{BlockAnswer}
 abbrev pub address : ℕ → Address
 address a = record { 0 = a }
 
--- an answer without a number
-abbrev pub numberless : ℕ → NumberAnswer
-numberless tag = record { value = 0; next = 0; tag = tag }
+-- an answer without a number: 1 where it ended short, 2 where it is too wide
+abbrev pub numberless : Cause → NumberAnswer
+numberless Short = record { value = 0; next = 0; tag = 1 }
+numberless Wide = record { value = 0; next = 0; tag = 2 }
 
 -- a number, and the place after it
 abbrev pub laid_number : ℕ → ℕ → NumberAnswer
 laid_number v n = record { value = v; next = n; tag = 0 }
 
 -- the number, or why there is none; a signed one as its 64 bits
-abbrev pub laid_unsigned : Unsigned → NumberAnswer
-laid_unsigned (u.Value v n) = laid_number v n
-laid_unsigned u.Short = numberless 1
-laid_unsigned u.Wide = numberless 2
+abbrev pub laid_unsigned : Result (ℕ × ℕ) Cause → NumberAnswer
+laid_unsigned (Ok (v, n)) = laid_number v n
+laid_unsigned (Err c) = numberless c
 
-abbrev pub laid_signed : Signed → NumberAnswer
-laid_signed (z.Value v n) = laid_number (bits_of v) n
-laid_signed z.Short = numberless 1
-laid_signed z.Wide = numberless 2
+abbrev pub laid_signed : Result (ℤ × ℕ) Cause → NumberAnswer
+laid_signed (Ok (v, n)) = laid_number (bits_of v) n
+laid_signed (Err c) = numberless c
 
 -- an answer without a row
 abbrev pub rowless : ℕ → LineAnswer
 rowless tag = record { addr = 0; file = 0; line = 0; tag = tag }
 
 -- the row, or why there is none
-abbrev pub laid_line : LineRead → LineAnswer
-laid_line (Row r) = record { addr = r.addr.0; file = r.file_idx.0; line = r.file_line.0; tag = 0 }
-laid_line Nothing = rowless 1
-laid_line Short = rowless 2
-laid_line Wide = rowless 3
+abbrev pub laid_line : Result (Option LineTableRow) Cause → LineAnswer
+laid_line (Ok (Some r)) = record { addr = r.addr.0; file = r.file_idx.0; line = r.file_line.0; tag = 0 }
+laid_line (Ok None) = rowless 1
+laid_line (Err Short) = rowless 2
+laid_line (Err Wide) = rowless 3
 
 -- what a block's answer says
 abbrev pub listed_as : BlockAnswer → Listed

@@ -9,23 +9,27 @@ ghost use Rattle.inline.specs.Block.{Lists};
 ghost use Rattle.reader_c.specs.Laid.{numberless, laid_unsigned, laid_signed};
 ghost use Rattle.reader_c.specs.Laid.{address, rowless, laid_line, listed_as};
 
-use leb128::{Signed, Unsigned};
-use linetab::LineRead;
+use leb128::Cause;
+use linetab::LineTableRow;
 use types::Address;
 
 // A LEB128 number. tag 0: its value (a signed one as its 64 bits) and the place after it; 1: it ended short; 2: it is
 // too wide. Where there is no value the other fields are 0.
 #[repr(C)]
-#[derive(Drop)]
+#[derive(Clone, Copy)]
 pub struct NumberAnswer {
     pub value: u64,
     pub next: usize,
     pub tag: u32,
 }
 
-fn without_number(tag: u32) -> NumberAnswer
-    ensures { result ≡ numberless tag }
+fn unread(cause: Cause) -> NumberAnswer
+    ensures { result ≡ numberless cause }
 {
+    let tag = match cause {
+        Cause::Short => 1,
+        Cause::Wide => 2,
+    };
     NumberAnswer {
         value: 0,
         next: 0,
@@ -39,13 +43,12 @@ pub extern "C" fn gsym_unsigned(bytes: &[u8], at: usize) -> NumberAnswer
     ensures { result ≡ laid_unsigned (unsigned_at bytes.now at) }
 {
     match leb128::unsigned_at(bytes, at) {
-        Unsigned::Value { value, next } => NumberAnswer {
+        Ok((value, next)) => NumberAnswer {
             value,
             next,
             tag: 0,
         },
-        Unsigned::Short => without_number(1),
-        Unsigned::Wide => without_number(2),
+        Err(cause) => unread(cause),
     }
 }
 
@@ -55,23 +58,19 @@ pub extern "C" fn gsym_signed(bytes: &[u8], at: usize) -> NumberAnswer
     ensures { result ≡ laid_signed (signed_at bytes.now at) }
 {
     match leb128::signed_at(bytes, at) {
-        Signed::Value { value, next } => {
-            let bits = int64::to_bits(value);
-            NumberAnswer {
-                value: bits,
-                next,
-                tag: 0,
-            }
-        }
-        Signed::Short => without_number(1),
-        Signed::Wide => without_number(2),
+        Ok((value, next)) => NumberAnswer {
+            value: int64::to_bits(value),
+            next,
+            tag: 0,
+        },
+        Err(why) => unread(why),
     }
 }
 
 // The row of an address. tag 0: this row; 1: there is none; 2: the header ended short; 3: a number of it is too
 // wide. Where there is no row the other fields are 0.
 #[repr(C)]
-#[derive(Drop)]
+#[derive(Clone, Copy)]
 pub struct LineAnswer {
     pub addr: u64,
     pub file: u32,
@@ -90,19 +89,19 @@ fn without_row(tag: u32) -> LineAnswer
     }
 }
 
-fn laid_line(read: LineRead) -> LineAnswer
+fn laid_line(read: Result<Option<LineTableRow>, Cause>) -> LineAnswer
     ensures { result ≡ laid_line read }
 {
     match read {
-        LineRead::Row(row) => LineAnswer {
+        Ok(Some(row)) => LineAnswer {
             addr: row.addr.0,
             file: row.file_idx.0,
             line: row.file_line.0,
             tag: 0,
         },
-        LineRead::Nothing => without_row(1),
-        LineRead::Short => without_row(2),
-        LineRead::Wide => without_row(3),
+        Ok(None) => without_row(1),
+        Err(Cause::Short) => without_row(2),
+        Err(Cause::Wide) => without_row(3),
     }
 }
 
@@ -116,7 +115,7 @@ pub extern "C" fn gsym_line_row(block: &[u8], symbol: u64, addr: u64) -> LineAns
 
 // What reading one inline block gives: number 0 and how many frames, or the refusal's number and 0.
 #[repr(C)]
-#[derive(Drop)]
+#[derive(Clone, Copy)]
 pub struct BlockAnswer {
     pub count: usize,
     pub number: u8,

@@ -2,74 +2,38 @@
 use crate::case::Case;
 use crate::said::Said;
 use crate::{blocks, lines, tables};
-use leb128::{Signed, Unsigned};
-use reads::{Read8, Read16, Read32, Read64};
-use strtab::{StrTable, TextRead};
+use leb128::Cause;
+use strtab::StrTable;
 use types::{Address, FileIndex, StrOffset, Text};
 
-impl From<Read8> for Said {
-    fn from(read: Read8) -> Said {
-        match read {
-            Read8::Value(value) => Said::value(value as u64, 0),
-            Read8::Unread => Said::Unread,
+impl From<Cause> for Said {
+    fn from(cause: Cause) -> Said {
+        match cause {
+            Cause::Short => Said::Short,
+            Cause::Wide => Said::Wide,
         }
     }
 }
 
-impl From<Read16> for Said {
-    fn from(read: Read16) -> Said {
-        match read {
-            Read16::Value(value) => Said::value(value as u64, 0),
-            Read16::Unread => Said::Unread,
-        }
+fn number(read: Option<u64>) -> Said {
+    match read {
+        Some(value) => Said::value(value, 0),
+        None => Said::Unread,
     }
 }
 
-impl From<Read32> for Said {
-    fn from(read: Read32) -> Said {
-        match read {
-            Read32::Value(value) => Said::value(value as u64, 0),
-            Read32::Unread => Said::Unread,
-        }
+// A number and the place after it.
+fn reached(read: Result<(u64, usize), Cause>) -> Said {
+    match read {
+        Ok((value, next)) => Said::value(value, next as u64),
+        Err(cause) => cause.into(),
     }
 }
 
-impl From<Read64> for Said {
-    fn from(read: Read64) -> Said {
-        match read {
-            Read64::Value(value) => Said::value(value, 0),
-            Read64::Unread => Said::Unread,
-        }
-    }
-}
-
-impl From<Unsigned> for Said {
-    fn from(read: Unsigned) -> Said {
-        match read {
-            Unsigned::Value { value, next } => Said::value(value, next as u64),
-            Unsigned::Short => Said::Short,
-            Unsigned::Wide => Said::Wide,
-        }
-    }
-}
-
-// A signed value goes by its bits.
-impl From<Signed> for Said {
-    fn from(read: Signed) -> Said {
-        match read {
-            Signed::Value { value, next } => Said::value(int64::to_bits(value), next as u64),
-            Signed::Short => Said::Short,
-            Signed::Wide => Said::Wide,
-        }
-    }
-}
-
-impl From<TextRead> for Said {
-    fn from(read: TextRead) -> Said {
-        match read {
-            TextRead::Is(text) => Said::value(text.place as u64, text.len as u64),
-            TextRead::Unread => Said::Unread,
-        }
+fn text(read: Option<Text>) -> Said {
+    match read {
+        Some(text) => Said::value(text.place as u64, text.len as u64),
+        None => Said::Unread,
     }
 }
 
@@ -96,15 +60,15 @@ pub fn answer(case: &Case) -> Said {
     let table = StrTable { place, size: len };
     let (x, y) = (int64::of_bits(p), int64::of_bits(q));
     match case.kind {
-        'b' => reads::u8_at(bytes, place).into(),
-        'h' => reads::u16_at(bytes, place).into(),
-        'w' => reads::u32_at(bytes, place).into(),
-        'd' => reads::u64_at(bytes, place).into(),
+        'b' => number(reads::u8_at(bytes, place).map(|value| value as u64)),
+        'h' => number(reads::u16_at(bytes, place).map(|value| value as u64)),
+        'w' => number(reads::u32_at(bytes, place).map(|value| value as u64)),
+        'd' => number(reads::u64_at(bytes, place)),
         'r' => Said::value(reads::left_at(bytes, place) as u64, 0),
-        'u' => leb128::unsigned_at(bytes, place).into(),
-        's' => leb128::signed_at(bytes, place).into(),
-        't' => strtab::text_at(bytes, table, StrOffset(low32(r))).into(),
-        'n' => strtab::name_at(bytes, table, StrOffset(low32(r))).into(),
+        'u' => reached(leb128::unsigned_at(bytes, place)),
+        's' => reached(leb128::signed_at(bytes, place).map(|(value, next)| (int64::to_bits(value), next))),
+        't' => text(strtab::text_at(bytes, table, StrOffset(low32(r)))),
+        'n' => text(strtab::name_at(bytes, table, StrOffset(low32(r)))),
         'p' => said_part(strtab::text(bytes, Text { place, len })),
         '8' => Said::value(u64::from(strtab::is_utf8(bytes)), 0),
         'l' => Said::value(strtab::sequence_len(low8(r)) as u64, 0),
@@ -114,9 +78,9 @@ pub fn answer(case: &Case) -> Said {
         '%' => Said::value(int64::to_bits(int64::rem(low8(p), y)), 0),
         '6' => Said::value(int64::add_to_u64(p, y), 0),
         '3' => Said::value(int64::add_to_u32(low32(p), y) as u64, 0),
-        'H' => linetab::parse(bytes, 0).into(),
+        'H' => lines::header(bytes),
         'o' => lines::nth_op(bytes, Address(p), q),
-        'L' => linetab::line_row(bytes, Address(p), Address(q)).into(),
+        'L' => lines::row(bytes, Address(p), Address(q)),
         'B' => blocks::with_room(bytes, Address(p), Address(q), r),
         'F' => blocks::nth_frame(bytes, Address(p), Address(q), r),
         'T' => tables::opening(bytes),

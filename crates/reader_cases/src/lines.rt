@@ -1,21 +1,18 @@
 // What the line machine answers to a case.
 use crate::said::Said;
-use linetab::{HeaderRead, LineRead, LineState, LineTableHeader, LineTableRow, RunResult};
+use linetab::{LineState, LineTableHeader, LineTableRow, RunResult};
 use types::Address;
 
 // The least and the greatest line change by their bits, the first line and the next place.
-impl From<HeaderRead> for Said {
-    fn from(read: HeaderRead) -> Said {
-        match read {
-            HeaderRead::Is { header, next } => Said::Value([
-                int64::to_bits(header.min_delta),
-                int64::to_bits(header.max_delta),
-                header.first_line.0 as u64,
-                next as u64,
-            ]),
-            HeaderRead::Short => Said::Short,
-            HeaderRead::Wide => Said::Wide,
-        }
+pub fn header(block: &[u8]) -> Said {
+    match linetab::parse(block, 0) {
+        Ok((header, next)) => Said::Value([
+            int64::to_bits(header.min_delta),
+            int64::to_bits(header.max_delta),
+            header.first_line.0 as u64,
+            next as u64,
+        ]),
+        Err(cause) => cause.into(),
     }
 }
 
@@ -41,14 +38,12 @@ impl From<RunResult> for Said {
     }
 }
 
-impl From<LineRead> for Said {
-    fn from(read: LineRead) -> Said {
-        match read {
-            LineRead::Row(row) => Said::Value(numbers(row, 0)),
-            LineRead::Nothing => Said::Unread,
-            LineRead::Short => Said::Short,
-            LineRead::Wide => Said::Wide,
-        }
+// The row of an address.
+pub fn row(block: &[u8], symbol: Address, addr: Address) -> Said {
+    match linetab::line_row(block, symbol, addr) {
+        Ok(Some(row)) => Said::Value(numbers(row, 0)),
+        Ok(None) => Said::Unread,
+        Err(cause) => cause.into(),
     }
 }
 
@@ -66,10 +61,10 @@ fn run(header: LineTableHeader, block: &[u8], start: LineState, count: u64) -> R
 
 pub fn nth_op(block: &[u8], symbol: Address, count: u64) -> Said {
     match linetab::parse(block, 0) {
-        HeaderRead::Is { header, next } => {
+        Ok((header, next)) => {
             let row = linetab::from_header(header, symbol);
             run(header, block, LineState { row, at: next }, count).into()
         }
-        unread => unread.into(),
+        Err(cause) => cause.into(),
     }
 }

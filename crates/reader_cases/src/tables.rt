@@ -1,47 +1,47 @@
 // What the tables of a file, the search in them and the items answer to a case. In a file that does not open there is
 // none of what was asked for.
 use crate::said::Said;
-use parser::{FileRead, Found, InfoRead, Item, Opened};
+use parser::Item;
 use types::{Address, FileIndex};
 
 // Whether the file opens, or the refusal.
 pub fn opening(file: &[u8]) -> Said {
     match parser::parse_header(file) {
-        Opened::Is(_) => Said::value(0, 0),
-        Opened::Refused(number) => Said::Refused(number),
+        Ok(_) => Said::value(0, 0),
+        Err(number) => Said::Refused(number),
     }
 }
 
 // The index of the entry of an address, and its symbol's address.
 pub fn entry_of(file: &[u8], addr: Address) -> Said {
-    let Opened::Is(tables) = parser::parse_header(file) else {
+    let Ok(tables) = parser::parse_header(file) else {
         return Said::Unread;
     };
     match parser::find_addr(file, tables, addr) {
-        Found::At(i) => Said::value(i as u64, parser::addr_at(file, tables, i).0),
-        Found::Unknown => Said::Unread,
+        Some(i) => Said::value(i as u64, parser::addr_at(file, tables, i).0),
+        None => Said::Unread,
     }
 }
 
 // Size and name of an entry.
 pub fn info(file: &[u8], i: usize) -> Said {
-    let Opened::Is(tables) = parser::parse_header(file) else {
+    let Ok(tables) = parser::parse_header(file) else {
         return Said::Unread;
     };
     match parser::addr_info(file, tables, i) {
-        InfoRead::Is(info) => Said::value(info.size as u64, info.name.0 as u64),
-        InfoRead::Unread => Said::Unread,
+        Some(info) => Said::value(info.size as u64, info.name.0 as u64),
+        None => Said::Unread,
     }
 }
 
 // Directory and file name of a row of the file table.
 pub fn file(file: &[u8], index: FileIndex) -> Said {
-    let Opened::Is(tables) = parser::parse_header(file) else {
+    let Ok(tables) = parser::parse_header(file) else {
         return Said::Unread;
     };
     match parser::file_info(file, tables, index) {
-        FileRead::Is(info) => Said::value(info.directory.0 as u64, info.filename.0 as u64),
-        FileRead::Unread => Said::Unread,
+        Some(info) => Said::value(info.directory.0 as u64, info.filename.0 as u64),
+        None => Said::Unread,
     }
 }
 
@@ -59,10 +59,10 @@ fn item_after(file: &[u8], start: usize, count: u64) -> Item {
 
 // Kind, place and length of an item of an entry.
 pub fn nth_item(file: &[u8], i: usize, count: u64) -> Said {
-    let Opened::Is(tables) = parser::parse_header(file) else {
+    let Ok(tables) = parser::parse_header(file) else {
         return Said::NoItem;
     };
-    let InfoRead::Is(info) = parser::addr_info(file, tables, i) else {
+    let Some(info) = parser::addr_info(file, tables, i) else {
         return Said::NoItem;
     };
     match item_after(file, info.items, count) {

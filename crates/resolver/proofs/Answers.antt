@@ -1,6 +1,7 @@
 -- An answer comes from the place that the entry's data offset names; and what it shows, each text as its bytes, comes
 -- from the book, the symbol's address and the entry's data alone.
 -- Assumes nothing.
+use Rattle.std.proofs.Common.{Some, None, Option}
 use Prim.Native.Nat.{ℕ, zero, suc, ◌+◌, ◌-◌, ◌≤◌}
 use mathlib.Core.List.{List, [], ◌∷◌, map}
 use mathlib.Core.Path.{◌≡◌, refl, sym, ap, ◌∙◌}
@@ -8,12 +9,9 @@ use lib.ListN.{length, take, drop, length-drop}
 use lib.Seq.{take-nil, take-take, drop-drop, length-take-le}
 use native.Mathlib.Omega.{arith}
 use borrow.Author.Tests.{le-leb}
-use Rattle.reads.specs.declared.Read32.TheVariants as r32
 use Rattle.types.specs.declared.Address.{Address}
 use Rattle.types.specs.declared.Options.{Options}
 use Rattle.types.specs.Refusal.{no_text}
-use Rattle.strtab.specs.declared.Len.{Len}
-use Rattle.strtab.specs.declared.Len.TheVariants.{Spans, Nothing}
 use Rattle.strtab.specs.Strings.{text_in, part_of}
 use Rattle.strtab.proofs.Texts.{text_in-inside}
 use Rattle.parser.specs.declared.Tables.{Tables}
@@ -31,12 +29,12 @@ use Rattle.resolver.proofs.Outcomes.{Entered, entered_says, lookup-entered}
 -- ---- where an answer comes from
 
 module _ (file : List ℕ) (t : Tables) (i : ℕ) (addr : Address) (o : Options) (room : ℕ) where
-  pub answer-at : (p : ℕ) → offset_at file t i ≡ r32.Value p →
+  pub answer-at : (p : ℕ) → offset_at file t i ≡ Some p →
       answer_at file t i addr o room ≡ answer_of file t (symbol_at file t i) addr o room (data_at file p)
   unfolding answer_at data_of data_at info_at on_offset
   answer-at p e = rw e
 
-  pub answer-no-offset : offset_at file t i ≡ r32.Unread → answer_at file t i addr o room ≡ refusing 5
+  pub answer-no-offset : offset_at file t i ≡ None → answer_at file t i addr o room ≡ refusing 5
   unfolding answer_at answer_of data_of info_at on_offset
   answer-no-offset e = rw e
 
@@ -83,12 +81,12 @@ module _ (file : List ℕ) (t : Tables) (w : Within file t) where
   unfolding spell_text read_text
   text-bytes offset = go (text_in (book_of file t).strings offset) refl
     where
-      go : (l : Len) → text_in (book_of file t).strings offset ≡ l →
+      go : (l : Option ℕ) → text_in (book_of file t).strings offset ≡ l →
           bytes_of file (text (t.strings.place + offset) l) ≡ cut (drop offset (book_of file t).strings) l
-      go (Spans n) e =
+      go (Some n) e =
           part-in-book offset n
           (omega (arith, text_in-inside (book_of file t).strings offset n e, length-strings))
-      go Nothing e = no_bytes
+      go None e = no_bytes
 
   frame-bytes : (c : Call) →
       shown_frame file (spell_frame (book_of file t) t.strings.place c) ≡ read_call (book_of file t) c

@@ -1,6 +1,7 @@
 -- What is asked for decides: with both options the lookup is that with frames; else room doesn't matter, no records are
 -- written, and the answer is the plain one.
 -- Assumes nothing.
+use Rattle.std.proofs.Common.{Some, None, Ok, Err, Option, Result}
 use Prim.Native.Nat.{ℕ}
 use mathlib.Core.Bool.{Bool, true, false, false≢true}
 use mathlib.Core.List.{List, [], ◌∷◌}
@@ -12,13 +13,7 @@ use Rattle.types.specs.declared.Address.{Address}
 use Rattle.types.specs.declared.Answer.{Answer}
 use Rattle.types.specs.declared.Options.{Options}
 use Rattle.types.specs.declared.InlineFrame.{InlineFrame}
-use Rattle.linetab.specs.declared.RowFound.{RowFound}
-use Rattle.linetab.specs.declared.RowFound.TheVariants as found
-use Rattle.linetab.specs.declared.LineRead.{LineRead}
-use Rattle.linetab.specs.declared.LineRead.TheVariants as line
 use Rattle.linetab.specs.Rows.{line_row}
-use Rattle.resolver.specs.declared.landing.Landing.{Landing}
-use Rattle.resolver.specs.declared.landing.Landing.TheVariants as land
 use Rattle.resolver.specs.Data.{Data, Piece}
 use Rattle.resolver.specs.Book.{Book, book_of}
 use Rattle.resolver.specs.Heard.{ask, Heard, after_line, hear_row, hear_frames, hear}
@@ -30,6 +25,10 @@ use Rattle.resolver.specs.Rows.{records_in, flat_frames, Wrote, Looks}
 use Rattle.resolver.proofs.Books.{never}
 use Rattle.resolver.proofs.Rowing.{Quiet, a-row, unread, quiet}
 use Rattle.resolver.proofs.Landings.{landed, not-landed}
+use Rattle.linetab.specs.declared.LineTableRow.{LineTableRow}
+use Rattle.leb128.specs.declared.Cause.{Cause}
+use Rattle.parser.specs.declared.Tables.{Tables}
+use Rattle.resolver.specs.declared.Entry.{Entry}
 
 -- what is false isn't true
 pub not-both : (b c : Bool) → b ≡ false → b ≡ true → c ≡ false
@@ -48,21 +47,19 @@ module _ (symbol addr : Address) (room : ℕ) where
       tested false = refl
 
   rows_agree :
-      (p : Piece) (go to : RowFound → Heard) → ((r : RowFound) → go r ≡ to r) → (r : RowFound) →
+      (p : Piece) (go to : Option LineTableRow → Heard) → ((r : Option LineTableRow) → go r ≡ to r) → (r : Option LineTableRow) →
       hear_row (ask symbol addr room false) p go r ≡ hear_row (ask symbol addr 0 false) p to r
   unfolding hear_row
-  rows_agree p go to h (found.Row r) = h (found.Row r)
-  rows_agree p go to h found.Nothing = tested (eqb p.kind 1) (line_row p.bytes symbol addr)
+  rows_agree p go to h (Some r) = h (Some r)
+  rows_agree p go to h None = tested (eqb p.kind 1) (line_row p.bytes symbol addr)
     where
-      tested : (b : Bool) (l : LineRead) →
-          pick b (after_line go l) (go found.Nothing) ≡ pick b (after_line to l) (to found.Nothing)
-      tested false l = h found.Nothing
-      tested true (line.Row r) = h (found.Row r)
-      tested true line.Nothing = h found.Nothing
-      tested true line.Short = refl
-      tested true line.Wide = refl
+      tested : (b : Bool) (l : Result (Option LineTableRow) Cause) →
+          pick b (after_line go l) (go None) ≡ pick b (after_line to l) (to None)
+      tested false l = h None
+      tested true (Ok r) = h r
+      tested true (Err c) = refl
 
-  still : (ps : List Piece) (r : RowFound) →
+  still : (ps : List Piece) (r : Option LineTableRow) →
       hear (ask symbol addr room false) ps r [] ≡ hear (ask symbol addr 0 false) ps r []
   unfolding hear
   still [] r = refl
@@ -79,7 +76,7 @@ module _ (symbol addr : Address) (room : ℕ) where
       say_more b d (ask symbol addr room inlining) code ≡ say_more b d (ask symbol addr 0 false) code
   unfolding say_more
   say-still b d inlining false h = refl
-  say-still b d inlining true h = rw (h refl) (ap (after_heard b d) (still d.items found.Nothing))
+  say-still b d inlining true h = rw (h refl) (ap (after_heard b d) (still d.items None))
 
 pub plain-same :
     (file : List ℕ) (addr : Address) (o : Options) (room : ℕ) → (o.code_info ≡ true → o.inlining ≡ false) →
@@ -87,49 +84,49 @@ pub plain-same :
 plain-same file addr o room h = go (landing_of file addr) refl
   where
     go :
-        (x : Landing) → landing_of file addr ≡ x →
+        (x : Result (Tables × Entry) ℕ) → landing_of file addr ≡ x →
         lookup_of file addr o room ≡ lookup_of file addr (plain_options o.code_info) 0
-    go (land.On t e) u =
+    go (Ok (t, e)) u =
         let l = landed file addr t e u in
         l.says o room
         ∙ ap (spell (book_of file t) t.strings.place e.symbol)
         (say-still e.symbol addr room (book_of file t) l.said o.inlining o.code_info h)
         ∙ sym (l.says (plain_options o.code_info) 0)
-    go (land.Refused n) u =
+    go (Err n) u =
         not-landed file addr n u o room ∙ sym (not-landed file addr n u (plain_options o.code_info) 0)
 
 -- ---- and no records are written
 
-pub record None (l : Looked) : Type 0 where
+pub record NoRecords (l : Looked) : Type 0 where
   pub count : l.answer.count ≡ 0
   pub frames : l.frames ≡ []
 
 module _ (b : Book) (place : ℕ) (symbol : Address) (d : Data) where
-  site-none : (s : SiteRead) → None (spell b place symbol (with_frames b d [] s))
+  site-none : (s : SiteRead) → NoRecords (spell b place symbol (with_frames b d [] s))
   unfolding spell with_frames
   site-none (is row) = record { count = refl; frames = refl }
   site-none (no n) = record { count = refl; frames = refl }
 
-  heard-none : (addr : Address) (h : Heard) → Quiet symbol addr h → None (spell b place symbol (after_heard b d h))
+  heard-none : (addr : Address) (h : Heard) → Quiet symbol addr h → NoRecords (spell b place symbol (after_heard b d h))
   unfolding spell after_heard
-  heard-none addr h (a-row (found.Row r)) = site-none (site_of b r.file_idx.0 r.file_line.0)
-  heard-none addr h (a-row found.Nothing) = record { count = refl; frames = refl }
+  heard-none addr h (a-row (Some r)) = site-none (site_of b r.file_idx.0 r.file_line.0)
+  heard-none addr h (a-row None) = record { count = refl; frames = refl }
   heard-none addr h unread = record { count = refl; frames = refl }
 
-  more-none : (addr : Address) (code : Bool) → None (spell b place symbol (say_more b d (ask symbol addr 0 false) code))
+  more-none : (addr : Address) (code : Bool) → NoRecords (spell b place symbol (say_more b d (ask symbol addr 0 false) code))
   unfolding spell say_more
   more-none addr true = heard-none addr _ (quiet symbol addr d.items)
   more-none addr false = record { count = refl; frames = refl }
 
-plain-none : (file : List ℕ) (addr : Address) (code : Bool) → None (lookup_of file addr (plain_options code) 0)
+plain-none : (file : List ℕ) (addr : Address) (code : Bool) → NoRecords (lookup_of file addr (plain_options code) 0)
 plain-none file addr code = go (landing_of file addr) refl
   where
-    go : (x : Landing) → landing_of file addr ≡ x → None (lookup_of file addr (plain_options code) 0)
-    go (land.On t e) u =
+    go : (x : Result (Tables × Entry) ℕ) → landing_of file addr ≡ x → NoRecords (lookup_of file addr (plain_options code) 0)
+    go (Ok (t, e)) u =
         let l = landed file addr t e u in
         rw (l.says (plain_options code) 0)
         (more-none (book_of file t) t.strings.place e.symbol l.said addr code)
-    go (land.Refused n) u =
+    go (Err n) u =
         rw (not-landed file addr n u (plain_options code) 0) (record { count = refl; frames = refl })
 
 -- ---- `lookup_in`

@@ -1,6 +1,7 @@
 -- A lookup's number from 10 to 14 is the refusal that the call for a single block gives: that of the entry's deciding
 -- inline block, at the same symbol address, bytes, address and room.
 -- Assumes nothing.
+use Rattle.std.proofs.Common.{None}
 use Prim.Native.Nat.{ℕ, ◌≤◌}
 use mathlib.Core.List.{List}
 use mathlib.Core.Path.{◌≡◌}
@@ -8,7 +9,6 @@ use mathlib.Core.Logic.{⊎_elim}
 use native.Mathlib.Omega.{arith}
 use Rattle.types.specs.declared.Address.{Address}
 use Rattle.types.specs.declared.Options.{Options}
-use Rattle.linetab.specs.declared.RowFound.TheVariants as found
 use Rattle.inline.specs.Block.{refused}
 use Rattle.parser.specs.Entries.{symbol_at}
 use Rattle.resolver.specs.Data.{Data}
@@ -36,9 +36,9 @@ unsaid-block b symbol d addr o room n l (unnamed c m e) = absurd (omega arith)
 unsaid-block b symbol d addr o room n l (unheard A h) =
     let q = ask symbol addr room o.inlining in
     ⊎_elim
-    (λ (k : (n ≡ 9) × (rows_alone q d.items found.Nothing ≡ unread)). absurd (omega (arith, k.0)))
+    (λ (k : (n ≡ 9) × (rows_alone q d.items None ≡ unread)). absurd (omega (arith, k.0)))
     (λ (D : Deciding q d.items (refused n)). (A, D))
-    (heard-fault q d.items found.Nothing n h)
+    (heard-fault q d.items None n h)
 unsaid-block b symbol d addr o room n l (unplaced r fs A h u) =
     let k = site-no b r.file_idx.0 0 n (unplaced-site b r.file_idx.0 0 n u) in absurd (omega (arith, k.1))
 unsaid-block b symbol d addr o room n l (first-unnamed r f fs s A h p m e) = absurd (omega arith)

@@ -1,6 +1,7 @@
 -- The book of an opened file: its rows are those of the file table in place, and a string or a name reads in the file
 -- exactly where it reads in the book.
 -- Assumes nothing.
+use Rattle.std.proofs.Common.{Some, None, Option}
 use Prim.Native.Nat.{ℕ, zero, suc, ◌+◌, ◌*◌, ◌≤◌, ◌<◌}
 use mathlib.Core.Bool.{Bool, true, false}
 use mathlib.Core.List.{List}
@@ -14,13 +15,9 @@ use Rattle.std.proofs.lemmas.Bool.{cases_lt}
 use Rattle.types.specs.declared.FileIndex.{FileIndex}
 use Rattle.types.specs.declared.StrOffset.{StrOffset}
 use Rattle.types.specs.declared.Text.{Text}
-use Rattle.strtab.specs.declared.Len.{Len}
-use Rattle.strtab.specs.declared.Len.TheVariants.{Spans, Nothing}
-use Rattle.strtab.specs.declared.TextRead.TheVariants as text
 use Rattle.strtab.specs.Strings.{text_in, name_in, placed, text_at, name_at}
 use Rattle.strtab.proofs.Texts.{text_in-table, name-in-table, name-in-is}
 use Rattle.parser.specs.declared.Tables.{Tables}
-use Rattle.parser.specs.declared.FileRead.TheVariants as row
 use Rattle.parser.specs.Numbers.{num_at}
 use Rattle.parser.specs.Header.{Within}
 use Rattle.parser.specs.Entries.{file_at}
@@ -41,7 +38,7 @@ num-drop width at by s = rw drop-drop
 
 nth-there :
     (n i : ℕ) (bytes : List ℕ) → i < n →
-    nth_file (files_in n bytes) i ≡ row.Is (file_row (num_at 4 bytes (i * 8)) (num_at 4 bytes (i * 8 + 4)))
+    nth_file (files_in n bytes) i ≡ Some (file_row (num_at 4 bytes (i * 8)) (num_at 4 bytes (i * 8 + 4)))
 unfolding nth_file files_in
 nth-there zero i bytes h = absurd (omega arith)
 nth-there (suc n) zero bytes h = refl
@@ -50,10 +47,10 @@ nth-there (suc n) (suc i) bytes h =
     num-drop 4 (i * 8) 8 bytes ∙ ap (num_at 4 bytes) (omega arith) in
     let q : num_at 4 (drop 8 bytes) (i * 8 + 4) ≡ num_at 4 bytes (suc i * 8 + 4) =
     num-drop 4 (i * 8 + 4) 8 bytes ∙ ap (num_at 4 bytes) (omega arith) in
-    nth-there n i (drop 8 bytes) (omega arith) ∙ ap (λ x. row.Is (file_row x (num_at 4 (drop 8 bytes) (i * 8 + 4)))) p
-    ∙ ap (λ x. row.Is (file_row (num_at 4 bytes (suc i * 8)) x)) q
+    nth-there n i (drop 8 bytes) (omega arith) ∙ ap (λ x. Some (file_row x (num_at 4 (drop 8 bytes) (i * 8 + 4)))) p
+    ∙ ap (λ x. Some (file_row (num_at 4 bytes (suc i * 8)) x)) q
 
-nth-none : (n i : ℕ) (bytes : List ℕ) → n ≤ i → nth_file (files_in n bytes) i ≡ row.Unread
+nth-none : (n i : ℕ) (bytes : List ℕ) → n ≤ i → nth_file (files_in n bytes) i ≡ None
 unfolding nth_file files_in
 nth-none zero i bytes h = refl
 nth-none (suc n) zero bytes h = absurd (omega arith)
@@ -64,32 +61,32 @@ nth-none (suc n) (suc i) bytes h = nth-none n i (drop 8 bytes) (omega arith)
 module _ (b : Book) (place offset : ℕ) where
   -- a string of the table's bytes, as an answer
   text-by : placed (place + offset) (text_in b.strings offset)
-      ≡ pick (reads_text b offset) (text.Is (spell_text b place offset)) text.Unread
+      ≡ pick (reads_text b offset) (Some (spell_text b place offset)) None
   unfolding reads_text spell_text
   text-by = go (text_in b.strings offset)
     where
-      go : (l : Len) → placed (place + offset) l
-          ≡ pick (there l) (text.Is (spelt (place + offset) l)) text.Unread
-      go (Spans n) = refl
-      go Nothing = refl
+      go : (l : Option ℕ) → placed (place + offset) l
+          ≡ pick (there l) (Some (spelt (place + offset) l)) None
+      go (Some n) = refl
+      go None = refl
 
   -- a name is the string of its length
   name_by : placed (place + offset) (name_in b.strings offset)
-      ≡ pick (reads_name b offset) (text.Is (spell_text b place offset)) text.Unread
+      ≡ pick (reads_name b offset) (Some (spell_text b place offset)) None
   unfolding reads_name spell_text
   name_by = go (name_in b.strings offset) refl
     where
-      go : (l : Len) → name_in b.strings offset ≡ l → placed (place + offset) l
-          ≡ pick (there l) (text.Is (spelt (place + offset) (text_in b.strings offset))) text.Unread
-      go (Spans n) e = rw (name-in-is b.strings offset n e).0
-      go Nothing e = refl
+      go : (l : Option ℕ) → name_in b.strings offset ≡ l → placed (place + offset) l
+          ≡ pick (there l) (Some (spelt (place + offset) (text_in b.strings offset))) None
+      go (Some n) e = rw (name-in-is b.strings offset n e).0
+      go None e = refl
 
 -- an answer after a test
-picked : (b : Bool) (x y : Text) → pick b (text.Is x) text.Unread ≡ text.Is y → (b ≡ true) × (y ≡ x)
+picked : (b : Bool) (x y : Text) → pick b (Some x) None ≡ Some y → (b ≡ true) × (y ≡ x)
 picked true x y e = let q : y ≡ x = cc in (refl, q)
 picked false x y e = let z : ◌≡◌ {A = ℕ} 0 1 = cc in never z
 
-not-picked : (b : Bool) (x : Text) → pick b (text.Is x) text.Unread ≡ text.Unread → b ≡ false
+not-picked : (b : Bool) (x : Text) → pick b (Some x) None ≡ None → b ≡ false
 not-picked true x e = let z : ◌≡◌ {A = ℕ} 0 1 = cc in never z
 not-picked false x e = refl
 
@@ -110,8 +107,8 @@ module _ (file : List ℕ) (t : Tables) (w : Within file t) where
     pub text_in-book :
         text_at file t.strings offset
         ≡ pick (reads_text (book_of file t) offset.0)
-        (text.Is (spell_text (book_of file t) t.strings.place offset.0))
-        text.Unread
+        (Some (spell_text (book_of file t) t.strings.place offset.0))
+        None
     unfolding book_of
     text_in-book =
         text_in-table file t.strings offset w.strings-end
@@ -120,8 +117,8 @@ module _ (file : List ℕ) (t : Tables) (w : Within file t) where
     pub name-in-book :
         name_at file t.strings offset
         ≡ pick (reads_name (book_of file t) offset.0)
-        (text.Is (spell_text (book_of file t) t.strings.place offset.0))
-        text.Unread
+        (Some (spell_text (book_of file t) t.strings.place offset.0))
+        None
     unfolding book_of
     name-in-book =
         name-in-table file t.strings offset w.strings-end
@@ -129,17 +126,17 @@ module _ (file : List ℕ) (t : Tables) (w : Within file t) where
 
     -- a string that reads in the file reads in the book, and is spelt there
     pub text-is :
-        (x : Text) → text_at file t.strings offset ≡ text.Is x →
+        (x : Text) → text_at file t.strings offset ≡ Some x →
         (reads_text (book_of file t) offset.0 ≡ true) × (x ≡ spell_text (book_of file t) t.strings.place offset.0)
     text-is x e = picked (reads_text (book_of file t) offset.0) _ x (sym text_in-book ∙ e)
 
-    pub text-unread : text_at file t.strings offset ≡ text.Unread → reads_text (book_of file t) offset.0 ≡ false
+    pub text-unread : text_at file t.strings offset ≡ None → reads_text (book_of file t) offset.0 ≡ false
     text-unread e = not-picked (reads_text (book_of file t) offset.0) _ (sym text_in-book ∙ e)
 
     pub name-is :
-        (x : Text) → name_at file t.strings offset ≡ text.Is x →
+        (x : Text) → name_at file t.strings offset ≡ Some x →
         (reads_name (book_of file t) offset.0 ≡ true) × (x ≡ spell_text (book_of file t) t.strings.place offset.0)
     name-is x e = picked (reads_name (book_of file t) offset.0) _ x (sym name-in-book ∙ e)
 
-    pub name-unread : name_at file t.strings offset ≡ text.Unread → reads_name (book_of file t) offset.0 ≡ false
+    pub name-unread : name_at file t.strings offset ≡ None → reads_name (book_of file t) offset.0 ≡ false
     name-unread e = not-picked (reads_name (book_of file t) offset.0) _ (sym name-in-book ∙ e)

@@ -1,5 +1,6 @@
 -- Positions and later frames: each refusal is given exactly when its cause is met, the first in document 01's order.
 -- Assumes nothing.
+use Rattle.std.proofs.Common.{Some, None, Option}
 use Prim.Native.Nat.{ℕ, zero, suc, ◌≤◌}
 use mathlib.Core.Bool.{Bool, true, false}
 use mathlib.Core.List.{List, [], ◌∷◌, ◌++◌}
@@ -9,8 +10,6 @@ use native.Mathlib.Omega.{arith}
 use Rattle.reads.specs.Pick.{pick}
 use Rattle.types.specs.declared.InlineFrame.{InlineFrame}
 use Rattle.parser.specs.declared.FileInfo.{FileInfo}
-use Rattle.parser.specs.declared.FileRead.{FileRead}
-use Rattle.parser.specs.declared.FileRead.TheVariants as row
 use Rattle.inline.proofs.Numbers.{never}
 use Rattle.resolver.specs.Book.{Book, nth_file, reads_text, reads_name}
 use Rattle.resolver.specs.Says.{Site, SiteRead, is, no, site, site_in, site_of}
@@ -18,13 +17,13 @@ use Rattle.resolver.specs.Says.{Call, Calls, calls, and_call, calls_of}
 
 -- ---- the file table
 
-pub file-past : (rs : List FileInfo) (i : ℕ) → length rs ≤ i → nth_file rs i ≡ row.Unread
+pub file-past : (rs : List FileInfo) (i : ℕ) → length rs ≤ i → nth_file rs i ≡ None
 unfolding nth_file
 file-past [] i l = refl
 file-past (r ∷ rs) zero l = absurd (omega arith)
 file-past (r ∷ rs) (suc i) l = file-past rs i (omega arith)
 
-pub past-file : (rs : List FileInfo) (i : ℕ) → nth_file rs i ≡ row.Unread → length rs ≤ i
+pub past-file : (rs : List FileInfo) (i : ℕ) → nth_file rs i ≡ None → length rs ≤ i
 unfolding nth_file
 past-file [] i e = omega arith
 past-file (r ∷ rs) zero e = never (let z : ◌≡◌ {A = ℕ} 0 1 = cc in z)
@@ -35,9 +34,9 @@ past-file (r ∷ rs) (suc i) e = let l = past-file rs i e in omega arith
 -- why a position doesn't read: 7 for the index, 8 for the directory, then 8 for the file
 pub data Unplaced (b : Book) (index n : ℕ) : Type 0 where
   no_row : length b.files ≤ index → n ≡ 7 → Unplaced b index n
-  no-dir : (r : FileInfo) → nth_file b.files index ≡ row.Is r → reads_text b r.directory.0 ≡ false → n ≡ 8 →
+  no-dir : (r : FileInfo) → nth_file b.files index ≡ Some r → reads_text b r.directory.0 ≡ false → n ≡ 8 →
       Unplaced b index n
-  no-file : (r : FileInfo) → nth_file b.files index ≡ row.Is r → reads_text b r.directory.0 ≡ true →
+  no-file : (r : FileInfo) → nth_file b.files index ≡ Some r → reads_text b r.directory.0 ≡ true →
       reads_text b r.filename.0 ≡ false → n ≡ 8 → Unplaced b index n
 
 module _ (b : Book) (index line n : ℕ) where
@@ -45,8 +44,8 @@ module _ (b : Book) (index line n : ℕ) where
   unfolding site_of site_in
   site-unplaced e = go (nth_file b.files index) refl e
     where
-      go : (r : FileRead) → nth_file b.files index ≡ r → site_in b line r ≡ no n → Unplaced b index n
-      go (row.Is r) q f = dir (reads_text b r.directory.0) refl (reads_text b r.filename.0) refl f
+      go : (r : Option FileInfo) → nth_file b.files index ≡ r → site_in b line r ≡ no n → Unplaced b index n
+      go (Some r) q f = dir (reads_text b r.directory.0) refl (reads_text b r.filename.0) refl f
         where
           dir : (t : Bool) → reads_text b r.directory.0 ≡ t → (u : Bool) → reads_text b r.filename.0 ≡ u →
               pick t (pick u (is (site r.directory.0 r.filename.0 line)) (no 8)) (no 8)
@@ -55,7 +54,7 @@ module _ (b : Book) (index line n : ℕ) where
           dir true p true o f = never (let z : ◌≡◌ {A = ℕ} 0 1 = cc in z)
           dir true p false o f = no-file r q p o cc
           dir false p u o f = no-dir r q p cc
-      go row.Unread q f = no_row (past-file b.files index q) cc
+      go None q f = no_row (past-file b.files index q) cc
 
   pub unplaced-site : Unplaced b index n → site_of b index line ≡ no n
   unfolding site_of site_in

@@ -1,6 +1,7 @@
 -- Faults refuse in list order: a fault is told exactly where an item, after others that read, has a line header or an
 -- inline block that doesn't read.
 -- Assumes nothing.
+use Rattle.std.proofs.Common.{Some, None, Option}
 use Prim.Native.Nat.{ℕ}
 use mathlib.Core.Bool.{Bool, true, false}
 use mathlib.Core.List.{List, [], ◌∷◌, ◌++◌}
@@ -10,8 +11,6 @@ use native.Mathlib.Omega.{arith}
 use borrow.Author.Tests.{eq-eqb, ne_eqb, eqb-true}
 use Rattle.reads.specs.Pick.{pick}
 use Rattle.types.specs.declared.InlineFrame.{InlineFrame}
-use Rattle.linetab.specs.declared.RowFound.{RowFound}
-use Rattle.linetab.specs.declared.RowFound.TheVariants as found
 use Rattle.linetab.specs.Rows.{line_row}
 use Rattle.inline.specs.Block.{Block, listed, refused}
 use Rattle.inline.proofs.Numbers.{never}
@@ -19,20 +18,21 @@ use Rattle.resolver.specs.Data.{Piece}
 use Rattle.resolver.specs.Heard.{Ask, known, fault, after_block, hear}
 use Rattle.resolver.proofs.Heards.{RowKnown, row, unread, as_row, row_after, on_row, block_in, frames_after}
 use Rattle.resolver.proofs.Heards.{hear-item}
+use Rattle.linetab.specs.declared.LineTableRow.{LineTableRow}
 
 -- why an item refuses, after a row and frames known so far: 9 for a line header, else the inline block's number
-pub data ItemFault (q : Ask) (p : Piece) (r : RowFound) (fs : List InlineFrame) (n : ℕ) : Type 0 where
-  header : r ≡ found.Nothing → p.kind ≡ 1 → as_row (line_row p.bytes q.symbol q.addr) ≡ unread → n ≡ 9 →
+pub data ItemFault (q : Ask) (p : Piece) (r : Option LineTableRow) (fs : List InlineFrame) (n : ℕ) : Type 0 where
+  header : r ≡ None → p.kind ≡ 1 → as_row (line_row p.bytes q.symbol q.addr) ≡ unread → n ≡ 9 →
       ItemFault q p r fs n
   block : fs ≡ [] → p.kind ≡ 2 → q.inlining ≡ true → block_in q p ≡ refused n → ItemFault q p r fs n
 
 -- the first item that refuses
-pub record FirstFault (q : Ask) (ps : List Piece) (r : RowFound) (fs : List InlineFrame) (n : ℕ) : Type 0 where
+pub record FirstFault (q : Ask) (ps : List Piece) (r : Option LineTableRow) (fs : List InlineFrame) (n : ℕ) : Type 0 where
   pub before : List Piece
   pub this : Piece
   pub after : List Piece
   pub split : ps ≡ before ++ this ∷ after
-  pub known-row : RowFound
+  pub known-row : Option LineTableRow
   pub known-frames : List InlineFrame
   pub read : hear q before r fs ≡ known known-row known-frames
   pub faulty : ItemFault q this known-row known-frames n
@@ -40,28 +40,28 @@ pub record FirstFault (q : Ask) (ps : List Piece) (r : RowFound) (fs : List Inli
 module _ (q : Ask) where
   -- ---- one item
 
-  row-unread : (p : Piece) (r : RowFound) → row_after q p r ≡ unread →
-      (r ≡ found.Nothing) × (p.kind ≡ 1) × (as_row (line_row p.bytes q.symbol q.addr) ≡ unread)
+  row-unread : (p : Piece) (r : Option LineTableRow) → row_after q p r ≡ unread →
+      (r ≡ None) × (p.kind ≡ 1) × (as_row (line_row p.bytes q.symbol q.addr) ≡ unread)
   unfolding row_after
-  row-unread p (found.Row r) e = never (let z : ◌≡◌ {A = ℕ} 0 1 = cc in z)
-  row-unread p found.Nothing e = go (eqb p.kind 1) refl e
+  row-unread p (Some r) e = never (let z : ◌≡◌ {A = ℕ} 0 1 = cc in z)
+  row-unread p None e = go (eqb p.kind 1) refl e
     where
       go : (t : Bool) → eqb p.kind 1 ≡ t →
-          pick t (as_row (line_row p.bytes q.symbol q.addr)) (row found.Nothing) ≡ unread →
-          (found.Nothing ≡ found.Nothing) × (p.kind ≡ 1)
+          pick t (as_row (line_row p.bytes q.symbol q.addr)) (row None) ≡ unread →
+          (◌≡◌ {A = Option LineTableRow} None None) × (p.kind ≡ 1)
           × (as_row (line_row p.bytes q.symbol q.addr) ≡ unread)
       go true k e = (refl, eqb-true p.kind 1 k, e)
       go false k e = never (let z : ◌≡◌ {A = ℕ} 0 1 = cc in z)
 
   unread-row : (p : Piece) → p.kind ≡ 1 → as_row (line_row p.bytes q.symbol q.addr) ≡ unread →
-      row_after q p found.Nothing ≡ unread
+      row_after q p None ≡ unread
   unfolding row_after
   unread-row p k e = rw (eq-eqb p.kind 1 k) e
 
-  other_row : (p : Piece) (r : RowFound) → p.kind ≡ 2 → row_after q p r ≡ row r
+  other_row : (p : Piece) (r : Option LineTableRow) → p.kind ≡ 2 → row_after q p r ≡ row r
   unfolding row_after
-  other_row p (found.Row r) k = refl
-  other_row p found.Nothing k =
+  other_row p (Some r) k = refl
+  other_row p None k =
       let h : p.kind ≡ 1 → ⊥ = λ z. absurd (omega arith) in rw (ne_eqb p.kind 1 h)
 
   frames-refused : (p : Piece) (fs : List InlineFrame) (n : ℕ) → frames_after q p fs ≡ refused n →
@@ -83,7 +83,7 @@ module _ (q : Ask) where
   refused-frames p n k i e = rw (eq-eqb p.kind 2 k, i) e
 
   -- an item that refuses does so whatever follows
-  pub item-fault : (p : Piece) (ps : List Piece) (r : RowFound) (fs : List InlineFrame) (n : ℕ) →
+  pub item-fault : (p : Piece) (ps : List Piece) (r : Option LineTableRow) (fs : List InlineFrame) (n : ℕ) →
       ItemFault q p r fs n → hear q (p ∷ ps) r fs ≡ fault n
   item-fault p ps r fs n (header a k e m) =
       let h : row_after q p r ≡ unread = ap (row_after q p) a ∙ unread-row p k e in
@@ -96,12 +96,12 @@ module _ (q : Ask) where
       ∙ ap (after_block (λ gs. hear q ps r gs)) h
 
   -- an item refuses, or the rest is heard with what is known after it
-  pub data ItemHeard (p : Piece) (ps : List Piece) (r : RowFound) (fs : List InlineFrame) : Type 0 where
+  pub data ItemHeard (p : Piece) (ps : List Piece) (r : Option LineTableRow) (fs : List InlineFrame) : Type 0 where
     faulty : (n : ℕ) → ItemFault q p r fs n → ItemHeard p ps r fs
-    onward : (s : RowFound) (gs : List InlineFrame) →
+    onward : (s : Option LineTableRow) (gs : List InlineFrame) →
         ((rest : List Piece) → hear q (p ∷ rest) r fs ≡ hear q rest s gs) → ItemHeard p ps r fs
 
-  pub item-heard : (p : Piece) (ps : List Piece) (r : RowFound) (fs : List InlineFrame) → ItemHeard p ps r fs
+  pub item-heard : (p : Piece) (ps : List Piece) (r : Option LineTableRow) (fs : List InlineFrame) → ItemHeard p ps r fs
   item-heard p ps r fs = go (row_after q p r) refl (frames_after q p fs) refl
     where
       go : (k : RowKnown) → row_after q p r ≡ k → (b : Block) → frames_after q p fs ≡ b → ItemHeard p ps r fs
@@ -117,17 +117,17 @@ module _ (q : Ask) where
 
   -- ---- all items
 
-  none-heard : (r : RowFound) (fs : List InlineFrame) → hear q [] r fs ≡ known r fs
+  none-heard : (r : Option LineTableRow) (fs : List InlineFrame) → hear q [] r fs ≡ known r fs
   unfolding hear
   none-heard r fs = refl
 
-  pub fault-first : (ps : List Piece) (r : RowFound) (fs : List InlineFrame) (n : ℕ) → hear q ps r fs ≡ fault n →
+  pub fault-first : (ps : List Piece) (r : Option LineTableRow) (fs : List InlineFrame) (n : ℕ) → hear q ps r fs ≡ fault n →
       FirstFault q ps r fs n
   fault-first [] r fs n e =
       never (let k = none-heard r fs in let z : ◌≡◌ {A = ℕ} 0 1 = cc in z)
   fault-first (p ∷ ps) r fs n e = go (λ s gs. fault-first ps s gs n) (item-heard p ps r fs)
     where
-      go : ((s : RowFound) (gs : List InlineFrame) → hear q ps s gs ≡ fault n → FirstFault q ps s gs n) →
+      go : ((s : Option LineTableRow) (gs : List InlineFrame) → hear q ps s gs ≡ fault n → FirstFault q ps s gs n) →
           ItemHeard p ps r fs → FirstFault q (p ∷ ps) r fs n
       go rest (faulty m f) =
           let h = item-fault p ps r fs m f in
@@ -156,7 +156,7 @@ module _ (q : Ask) where
           }
 
   -- items that read hand on what is known
-  pub heard-then : (ps rest : List Piece) (r : RowFound) (fs : List InlineFrame) (s : RowFound)
+  pub heard-then : (ps rest : List Piece) (r : Option LineTableRow) (fs : List InlineFrame) (s : Option LineTableRow)
       (gs : List InlineFrame) → hear q ps r fs ≡ known s gs → hear q (ps ++ rest) r fs ≡ hear q rest s gs
   heard-then [] rest r fs s gs e =
       let k = none-heard r fs in
@@ -165,14 +165,14 @@ module _ (q : Ask) where
       rw (a, b)
   heard-then (p ∷ ps) rest r fs s gs e = go (λ r fs. heard-then ps rest r fs s gs) (item-heard p ps r fs)
     where
-      go : ((r : RowFound) (fs : List InlineFrame) → hear q ps r fs ≡ known s gs →
+      go : ((r : Option LineTableRow) (fs : List InlineFrame) → hear q ps r fs ≡ known s gs →
           hear q (ps ++ rest) r fs ≡ hear q rest s gs) →
           ItemHeard p ps r fs → hear q (p ∷ ps ++ rest) r fs ≡ hear q rest s gs
       go more (faulty m f) =
           never (let h = item-fault p ps r fs m f in let z : ◌≡◌ {A = ℕ} 0 1 = cc in z)
       go more (onward u hs h) = h (ps ++ rest) ∙ more u hs (sym (h ps) ∙ e)
 
-  pub first-fault : (ps : List Piece) (r : RowFound) (fs : List InlineFrame) (n : ℕ) → FirstFault q ps r fs n →
+  pub first-fault : (ps : List Piece) (r : Option LineTableRow) (fs : List InlineFrame) (n : ℕ) → FirstFault q ps r fs n →
       hear q ps r fs ≡ fault n
   first-fault ps r fs n F =
       ap (λ (l : List Piece). hear q l r fs) F.split

@@ -1,6 +1,7 @@
 -- The frames of a lookup are those of one inline block, the first that doesn't list none: what the call for a single
 -- block gives at the same symbol address, bytes, address and room, be it frames or a refusal.
 -- Assumes nothing.
+use Rattle.std.proofs.Common.{Option}
 use Prim.Native.Nat.{ℕ, ◌≤◌}
 use mathlib.Core.Bool.{Bool, true, false}
 use mathlib.Core.List.{List, [], ◌∷◌, ◌++◌}
@@ -10,7 +11,6 @@ use lib.Dec.{eqb}
 use native.Mathlib.Omega.{arith}
 use borrow.Author.Tests.{eq-eqb, eqb-true, eqb-false}
 use Rattle.types.specs.declared.InlineFrame.{InlineFrame}
-use Rattle.linetab.specs.declared.RowFound.{RowFound}
 use Rattle.inline.specs.Block.{Block, listed, refused}
 use Rattle.inline.proofs.Numbers.{never}
 use Rattle.inline.proofs.Demand.{refused-no}
@@ -18,6 +18,7 @@ use Rattle.resolver.specs.Data.{Piece}
 use Rattle.resolver.specs.Heard.{Ask, known, fault, hear}
 use Rattle.resolver.proofs.Heards.{unread, rows_alone, block_in, frames_after, then_frames, frames_alone}
 use Rattle.resolver.proofs.Heards.{heard-parts, fault-part, frames-off}
+use Rattle.linetab.specs.declared.LineTableRow.{LineTableRow}
 
 -- each inline block lists no frames
 unfoldable pub Frameless : Ask → List Piece → Type 0
@@ -151,14 +152,14 @@ module _ (q : Ask) where
   -- ---- what is heard
 
   -- frames are those of the deciding block
-  pub heard-frames : (ps : List Piece) (r s : RowFound) (f : InlineFrame) (fs : List InlineFrame) →
+  pub heard-frames : (ps : List Piece) (r s : Option LineTableRow) (f : InlineFrame) (fs : List InlineFrame) →
       hear q ps r [] ≡ known s (f ∷ fs) → Deciding q ps (listed (f ∷ fs))
   heard-frames ps r s f fs e =
       frames-deciding ps (listed (f ∷ fs)) (λ z. never (let y : ◌≡◌ {A = ℕ} 0 1 = cc in y))
       (heard-parts q ps r [] s (f ∷ fs) e).1
 
   -- a fault is a line header's, or the refusal of the deciding block
-  pub heard-fault : (ps : List Piece) (r : RowFound) (n : ℕ) → hear q ps r [] ≡ fault n →
+  pub heard-fault : (ps : List Piece) (r : Option LineTableRow) (n : ℕ) → hear q ps r [] ≡ fault n →
       ((n ≡ 9) × (rows_alone q ps r ≡ unread)) ⊎ Deciding q ps (refused n)
   heard-fault ps r n e =
       ⊎_elim
@@ -168,7 +169,7 @@ module _ (q : Ask) where
       (fault-part q ps r [] n e)
 
   -- without inlining only 9, else 9 to 14
-  pub heard-no : (ps : List Piece) (r : RowFound) (n : ℕ) → hear q ps r [] ≡ fault n → (9 ≤ n) × (n ≤ 14)
+  pub heard-no : (ps : List Piece) (r : Option LineTableRow) (n : ℕ) → hear q ps r [] ≡ fault n → (9 ≤ n) × (n ≤ 14)
   heard-no ps r n e =
       ⊎_elim
       (λ (l : (n ≡ 9) × (rows_alone q ps r ≡ unread)). let k = l.0 in (omega (arith, k), omega (arith, k)))
@@ -177,7 +178,7 @@ module _ (q : Ask) where
       (omega (arith, l.0), l.1))
       (heard-fault ps r n e)
 
-  pub heard-off : (ps : List Piece) (r : RowFound) (n : ℕ) → q.inlining ≡ false → hear q ps r [] ≡ fault n → n ≡ 9
+  pub heard-off : (ps : List Piece) (r : Option LineTableRow) (n : ℕ) → q.inlining ≡ false → hear q ps r [] ≡ fault n → n ≡ 9
   heard-off ps r n i e =
       ⊎_elim
       (λ (l : (n ≡ 9) × (rows_alone q ps r ≡ unread)). l.0)

@@ -1,5 +1,6 @@
 -- The answer with frames, as its stages hand it on, is the whole lookup's: positions move up one in both.
 -- Assumes nothing.
+use Rattle.std.proofs.Common.{Some, None, Err, Result}
 use Prim.Native.Nat.{ℕ}
 use mathlib.Core.Bool.{Bool, true, false}
 use mathlib.Core.List.{List, [], ◌∷◌, ◌++◌, map}
@@ -11,11 +12,8 @@ use Rattle.types.specs.declared.Address.{Address}
 use Rattle.types.specs.declared.Text.{Text}
 use Rattle.types.specs.declared.Frame.{Frame}
 use Rattle.types.specs.declared.InlineFrame.{InlineFrame}
-use Rattle.linetab.specs.declared.RowFound.TheVariants as found
 use Rattle.parser.specs.declared.Tables.{Tables}
 use Rattle.resolver.specs.declared.Entry.{Entry}
-use Rattle.resolver.specs.declared.sites.CallRead.{CallRead}
-use Rattle.resolver.specs.declared.sites.CallRead.TheVariants as call
 use Rattle.resolver.specs.Data.{Data, Piece, items_at}
 use Rattle.resolver.specs.Book.{Book, book_of, reads_name}
 use Rattle.resolver.specs.Heard.{ask, Heard, known, fault, hear}
@@ -71,7 +69,7 @@ module _ (file : List ℕ) (t : Tables) where
 
   -- ---- a frame's name and call site
 
-  abbrev with_read : ℕ → SiteRead → CallRead
+  abbrev with_read : ℕ → SiteRead → Result Frame ℕ
   with_read n s = at_call (named n) (spell_read book start s)
 
   module _ (row : Site) where
@@ -114,7 +112,7 @@ module _ (file : List ℕ) (t : Tables) where
             (b : Bool) (s : SiteRead) →
             then_lift
             (λ g. lift file t (spell_site book start row) (made ++ record_of (named n) (place_in g) ∷ []) g.name fs)
-            (pick b (with_read f.name.0 s) (call.Refused 6))
+            (pick b (with_read f.name.0 s) (Err 6))
             ≡ lifts made n (pick b (with_site f.name.0 (calls_of book fs) s) (noCalls 6))
         go h false s = refl
         go h true (no_site k) = refl
@@ -145,7 +143,7 @@ module _ (file : List ℕ) (t : Tables) where
           go :
               (b : Bool) (s : SiteRead) →
               after_first file t e (named n) (spell_site book start row) fs
-              (pick b (with_read f.name.0 s) (call.Refused 6))
+              (pick b (with_read f.name.0 s) (Err 6))
               ≡ say (pick b (with_site f.name.0 (calls_of book fs) s) (noCalls 6)) row n
           go false s = refl
           go true (no_site k) = refl
@@ -173,8 +171,8 @@ module _ (file : List ℕ) (t : Tables) where
 
     with-heard : (h : Heard) → with_heard file t e h ≡ spell book start e.symbol (after_heard book d h)
     unfolding with_heard after_heard place_at spell
-    with-heard (known (found.Row r) fs) = with-site fs (site_of book r.file_idx.0 r.file_line.0)
-    with-heard (known found.Nothing fs) = rw (size, name) refl
+    with-heard (known (Some r) fs) = with-site fs (site_of book r.file_idx.0 r.file_line.0)
+    with-heard (known None fs) = rw (size, name) refl
     with-heard (fault k) = refl
 
 -- an entry with position and frames: the lookup with all options
@@ -186,6 +184,6 @@ framed file addr t e room L =
     with-heard file t e L.said L.size L.name (heard_in e.symbol addr room (items_at file e.items).list)
     ∙ ap
     (λ (ps : List Piece). spell (book_of file t) t.strings.place e.symbol
-    (after_heard (book_of file t) L.said (hear (ask e.symbol addr room true) ps found.Nothing [])))
+    (after_heard (book_of file t) L.said (hear (ask e.symbol addr room true) ps None [])))
     (sym L.items)
     ∙ sym (L.says all_options room)

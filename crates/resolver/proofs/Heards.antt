@@ -1,6 +1,7 @@
 -- Rows and frames are heard apart: where all items read, the row is that of the line blocks alone and the frames are
 -- those of the inline blocks alone; a fault is one of either.
 -- Assumes nothing.
+use Rattle.std.proofs.Common.{Some, None, Ok, Err, Option, Result}
 use Prim.Native.Nat.{ℕ}
 use mathlib.Core.Bool.{Bool, true, false}
 use mathlib.Core.List.{List, [], ◌∷◌}
@@ -9,40 +10,36 @@ use mathlib.Core.Logic.{◌⊎◌, inl, inr}
 use lib.Dec.{eqb}
 use Rattle.reads.specs.Pick.{pick}
 use Rattle.types.specs.declared.InlineFrame.{InlineFrame}
-use Rattle.linetab.specs.declared.RowFound.{RowFound}
-use Rattle.linetab.specs.declared.RowFound.TheVariants as found
-use Rattle.linetab.specs.declared.LineRead.{LineRead}
-use Rattle.linetab.specs.declared.LineRead.TheVariants as line
 use Rattle.linetab.specs.Rows.{line_row}
 use Rattle.inline.specs.Block.{Block, listed, refused, block_of}
 use Rattle.inline.proofs.Numbers.{never}
 use Rattle.resolver.specs.Data.{Piece}
 use Rattle.resolver.specs.Heard.{Ask, ask, Heard, known, fault, after_line, hear_row, after_block, hear_frames, hear}
+use Rattle.linetab.specs.declared.LineTableRow.{LineTableRow}
+use Rattle.leb128.specs.declared.Cause.{Cause}
 
 -- ---- rows alone
 
 -- the row known so far, or that a line block's header doesn't read
 pub data RowKnown : Type 0 where
-  row : RowFound → RowKnown
+  row : Option LineTableRow → RowKnown
   unread : RowKnown
 
-abbrev pub as_row : LineRead → RowKnown
-as_row (line.Row r) = row (found.Row r)
-as_row line.Nothing = row found.Nothing
-as_row line.Short = unread
-as_row line.Wide = unread
+abbrev pub as_row : Result (Option LineTableRow) Cause → RowKnown
+as_row (Ok r) = row r
+as_row (Err c) = unread
 
 -- after an item
-unfoldable pub row_after : Ask → Piece → RowFound → RowKnown
-row_after q p (found.Row r) = row (found.Row r)
-row_after q p found.Nothing =
-    pick (eqb p.kind 1) (as_row (line_row p.bytes q.symbol q.addr)) (row found.Nothing)
+unfoldable pub row_after : Ask → Piece → Option LineTableRow → RowKnown
+row_after q p (Some r) = row (Some r)
+row_after q p None =
+    pick (eqb p.kind 1) (as_row (line_row p.bytes q.symbol q.addr)) (row None)
 
-abbrev pub then_row : (RowFound → RowKnown) → RowKnown → RowKnown
+abbrev pub then_row : (Option LineTableRow → RowKnown) → RowKnown → RowKnown
 then_row go (row r) = go r
 then_row go unread = unread
 
-unfoldable pub rows_alone : Ask → List Piece → RowFound → RowKnown
+unfoldable pub rows_alone : Ask → List Piece → Option LineTableRow → RowKnown
 rows_alone q [] r = row r
 rows_alone q (p ∷ ps) r = then_row (rows_alone q ps) (row_after q p r)
 
@@ -67,25 +64,23 @@ frames_alone q (p ∷ ps) fs = then_frames (frames_alone q ps) (frames_after q p
 
 -- ---- one item
 
-abbrev pub on_row : (RowFound → Heard) → RowKnown → Heard
+abbrev pub on_row : (Option LineTableRow → Heard) → RowKnown → Heard
 on_row go (row r) = go r
 on_row go unread = fault 9
 
-line-row : (go : RowFound → Heard) (l : LineRead) → after_line go l ≡ on_row go (as_row l)
-line-row go (line.Row r) = refl
-line-row go line.Nothing = refl
-line-row go line.Short = refl
-line-row go line.Wide = refl
+line-row : (go : Option LineTableRow → Heard) (l : Result (Option LineTableRow) Cause) → after_line go l ≡ on_row go (as_row l)
+line-row go (Ok r) = refl
+line-row go (Err c) = refl
 
-pub row-after : (q : Ask) (p : Piece) (go : RowFound → Heard) (r : RowFound) →
+pub row-after : (q : Ask) (p : Piece) (go : Option LineTableRow → Heard) (r : Option LineTableRow) →
     hear_row q p go r ≡ on_row go (row_after q p r)
 unfolding hear_row row_after
-row-after q p go (found.Row r) = refl
-row-after q p go found.Nothing = by_kind (eqb p.kind 1)
+row-after q p go (Some r) = refl
+row-after q p go None = by_kind (eqb p.kind 1)
   where
     by_kind : (t : Bool) →
-        pick t (after_line go (line_row p.bytes q.symbol q.addr)) (go found.Nothing)
-        ≡ on_row go (pick t (as_row (line_row p.bytes q.symbol q.addr)) (row found.Nothing))
+        pick t (after_line go (line_row p.bytes q.symbol q.addr)) (go None)
+        ≡ on_row go (pick t (as_row (line_row p.bytes q.symbol q.addr)) (row None))
     by_kind true = line-row go (line_row p.bytes q.symbol q.addr)
     by_kind false = refl
 
@@ -102,7 +97,7 @@ frames-after q p go [] = by_tests (eqb p.kind 2) q.inlining
     by_tests true false = refl
     by_tests false u = refl
 
-pub hear-item : (q : Ask) (p : Piece) (ps : List Piece) (r : RowFound) (fs : List InlineFrame) →
+pub hear-item : (q : Ask) (p : Piece) (ps : List Piece) (r : Option LineTableRow) (fs : List InlineFrame) →
     hear q (p ∷ ps) r fs ≡ on_row (λ s. after_block (λ gs. hear q ps s gs) (frames_after q p fs)) (row_after q p r)
 unfolding hear
 hear-item q p ps r fs =
@@ -118,14 +113,14 @@ hear-item q p ps r fs =
 
 module _ (q : Ask) where
   -- where all reads, row and frames are those of their own blocks
-  pub heard-parts : (ps : List Piece) (r : RowFound) (fs : List InlineFrame) (s : RowFound) (gs : List InlineFrame) →
+  pub heard-parts : (ps : List Piece) (r : Option LineTableRow) (fs : List InlineFrame) (s : Option LineTableRow) (gs : List InlineFrame) →
       hear q ps r fs ≡ known s gs → (rows_alone q ps r ≡ row s) × (frames_alone q ps fs ≡ listed gs)
   unfolding hear rows_alone frames_alone
   heard-parts [] r fs s gs e = (cc, cc)
   heard-parts (p ∷ ps) r fs s gs e =
       go (heard-parts ps) (row_after q p r) (frames_after q p fs) (sym (hear-item q p ps r fs) ∙ e)
     where
-      go : ((r : RowFound) (fs : List InlineFrame) (s : RowFound) (gs : List InlineFrame) →
+      go : ((r : Option LineTableRow) (fs : List InlineFrame) (s : Option LineTableRow) (gs : List InlineFrame) →
           hear q ps r fs ≡ known s gs → (rows_alone q ps r ≡ row s) × (frames_alone q ps fs ≡ listed gs)) →
           (k : RowKnown) (b : Block) → on_row (λ s. after_block (λ gs. hear q ps s gs) b) k ≡ known s gs →
           (then_row (rows_alone q ps) k ≡ row s) × (then_frames (frames_alone q ps) b ≡ listed gs)
@@ -133,14 +128,14 @@ module _ (q : Ask) where
       go rest (row r) (refused n) f = never (let z : ◌≡◌ {A = ℕ} 0 1 = cc in z)
       go rest unread b f = never (let z : ◌≡◌ {A = ℕ} 0 1 = cc in z)
 
-  pub parts-heard : (ps : List Piece) (r : RowFound) (fs : List InlineFrame) (s : RowFound) (gs : List InlineFrame) →
+  pub parts-heard : (ps : List Piece) (r : Option LineTableRow) (fs : List InlineFrame) (s : Option LineTableRow) (gs : List InlineFrame) →
       rows_alone q ps r ≡ row s → frames_alone q ps fs ≡ listed gs → hear q ps r fs ≡ known s gs
   unfolding hear rows_alone frames_alone
   parts-heard [] r fs s gs e f = cc
   parts-heard (p ∷ ps) r fs s gs e f =
       hear-item q p ps r fs ∙ go (parts-heard ps) (row_after q p r) (frames_after q p fs) e f
     where
-      go : ((r : RowFound) (fs : List InlineFrame) (s : RowFound) (gs : List InlineFrame) →
+      go : ((r : Option LineTableRow) (fs : List InlineFrame) (s : Option LineTableRow) (gs : List InlineFrame) →
           rows_alone q ps r ≡ row s → frames_alone q ps fs ≡ listed gs → hear q ps r fs ≡ known s gs) →
           (k : RowKnown) (b : Block) → then_row (rows_alone q ps) k ≡ row s →
           then_frames (frames_alone q ps) b ≡ listed gs →
@@ -150,14 +145,14 @@ module _ (q : Ask) where
       go rest unread b e f = never (let z : ◌≡◌ {A = ℕ} 0 1 = cc in z)
 
   -- a fault is 9 and that of the line blocks, or that of the inline blocks
-  pub fault-part : (ps : List Piece) (r : RowFound) (fs : List InlineFrame) (n : ℕ) → hear q ps r fs ≡ fault n →
+  pub fault-part : (ps : List Piece) (r : Option LineTableRow) (fs : List InlineFrame) (n : ℕ) → hear q ps r fs ≡ fault n →
       ((n ≡ 9) × (rows_alone q ps r ≡ unread)) ⊎ (frames_alone q ps fs ≡ refused n)
   unfolding hear rows_alone frames_alone
   fault-part [] r fs n e = never (let z : ◌≡◌ {A = ℕ} 0 1 = cc in z)
   fault-part (p ∷ ps) r fs n e =
       go (fault-part ps) (row_after q p r) (frames_after q p fs) (sym (hear-item q p ps r fs) ∙ e)
     where
-      go : ((r : RowFound) (fs : List InlineFrame) (n : ℕ) → hear q ps r fs ≡ fault n →
+      go : ((r : Option LineTableRow) (fs : List InlineFrame) (n : ℕ) → hear q ps r fs ≡ fault n →
           ((n ≡ 9) × (rows_alone q ps r ≡ unread)) ⊎ (frames_alone q ps fs ≡ refused n)) →
           (k : RowKnown) (b : Block) → on_row (λ s. after_block (λ gs. hear q ps s gs) b) k ≡ fault n →
           ((n ≡ 9) × (then_row (rows_alone q ps) k ≡ unread)) ⊎ (then_frames (frames_alone q ps) b ≡ refused n)
@@ -168,13 +163,13 @@ module _ (q : Ask) where
 -- ---- neither looks at the other
 
 -- the row doesn't depend on whether frames are wanted, nor on the room for them
-row-any-room : (q : Ask) (room : ℕ) (inlining : Bool) (p : Piece) (r : RowFound) →
+row-any-room : (q : Ask) (room : ℕ) (inlining : Bool) (p : Piece) (r : Option LineTableRow) →
     row_after (ask q.symbol q.addr room inlining) p r ≡ row_after q p r
 unfolding row_after
-row-any-room q room inlining p (found.Row r) = refl
-row-any-room q room inlining p found.Nothing = refl
+row-any-room q room inlining p (Some r) = refl
+row-any-room q room inlining p None = refl
 
-pub rows-any-room : (q : Ask) (room : ℕ) (inlining : Bool) (ps : List Piece) (r : RowFound) →
+pub rows-any-room : (q : Ask) (room : ℕ) (inlining : Bool) (ps : List Piece) (r : Option LineTableRow) →
     rows_alone (ask q.symbol q.addr room inlining) ps r ≡ rows_alone q ps r
 unfolding rows_alone
 rows-any-room q room inlining [] r = refl
@@ -182,7 +177,7 @@ rows-any-room q room inlining (p ∷ ps) r =
     ap (then_row (rows_alone (ask q.symbol q.addr room inlining) ps)) (row-any-room q room inlining p r)
     ∙ go (rows-any-room q room inlining ps) (row_after q p r)
   where
-    go : ((r : RowFound) → rows_alone (ask q.symbol q.addr room inlining) ps r ≡ rows_alone q ps r) →
+    go : ((r : Option LineTableRow) → rows_alone (ask q.symbol q.addr room inlining) ps r ≡ rows_alone q ps r) →
         (k : RowKnown) →
         then_row (rows_alone (ask q.symbol q.addr room inlining) ps) k ≡ then_row (rows_alone q ps) k
     go rest (row r) = rest r
@@ -204,7 +199,7 @@ unfolding frames_alone
 frames-off q h [] fs = refl
 frames-off q h (p ∷ ps) fs = ap (then_frames (frames_alone q ps)) (frame_off q p fs h) ∙ frames-off q h ps fs
 
-pub row-without-inlining : (q : Ask) (ps : List Piece) (r s : RowFound) (fs gs : List InlineFrame) (room : ℕ) →
+pub row-without-inlining : (q : Ask) (ps : List Piece) (r s : Option LineTableRow) (fs gs : List InlineFrame) (room : ℕ) →
     hear q ps r fs ≡ known s gs → hear (ask q.symbol q.addr room false) ps r [] ≡ known s []
 row-without-inlining q ps r s fs gs room e =
     let other = ask q.symbol q.addr room false in

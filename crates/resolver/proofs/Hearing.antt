@@ -1,5 +1,6 @@
 -- The items of an entry after a row and frames known so far: each way that `code_in` goes on or out, on plain values.
 -- Assumes nothing.
+use Rattle.std.proofs.Common.{Some, None, Ok, Err, Option, Result, IsTrue, is_some}
 use Prim.Native.Nat.{ℕ, ◌<◌, ◌≤◌}
 use mathlib.Core.Bool.{Bool, true, false}
 use mathlib.Core.List.{List, [], ◌∷◌}
@@ -8,31 +9,27 @@ use lib.Dec.{eqb}
 use lib.ListN.{length}
 use native.Mathlib.Omega.{arith}
 use borrow.Author.Tests.{eq-eqb, ne_eqb}
+use Rattle.std.proofs.lemmas.Bool.{false≢true}
 use Rattle.reads.specs.Pick.{pick}
 use Rattle.types.specs.declared.Address.{Address}
 use Rattle.types.specs.declared.InlineFrame.{InlineFrame}
 use Rattle.linetab.specs.declared.LineTableRow.{LineTableRow}
-use Rattle.linetab.specs.declared.RowFound.{RowFound}
-use Rattle.linetab.specs.declared.RowFound.TheVariants as found
-use Rattle.linetab.specs.declared.LineRead.{LineRead}
-use Rattle.linetab.specs.declared.LineRead.TheVariants as line
 use Rattle.linetab.specs.Rows.{line_row}
 use Rattle.inline.specs.Block.{Block, listed, refused, block_of}
 use Rattle.inline.proofs.Answers.{block_room}
-use Rattle.resolver.specs.declared.items.LineHeard.{LineHeard}
-use Rattle.resolver.specs.declared.items.LineHeard.TheVariants as heard
 use Rattle.resolver.specs.Data.{Piece}
 use Rattle.resolver.specs.Heard.{Ask, Heard, known, fault, after_line, after_block, hear_row, hear_frames, hear}
 use Rattle.resolver.specs.Stages.{as_heard, line_heard}
+use Rattle.leb128.specs.declared.Cause.{Cause}
 
 -- ---- what an item leaves alone
 
 -- an item of another kind leaves the row
 row-passes :
-    (q : Ask) (p : Piece) (go : RowFound → Heard) (r : RowFound) → (p.kind ≡ 1 → ⊥) → hear_row q p go r ≡ go r
+    (q : Ask) (p : Piece) (go : Option LineTableRow → Heard) (r : Option LineTableRow) → (p.kind ≡ 1 → ⊥) → hear_row q p go r ≡ go r
 unfolding hear_row
-row-passes q p go (found.Row r) n = refl
-row-passes q p go found.Nothing n = rw (ne_eqb p.kind 1 n) refl
+row-passes q p go (Some r) n = refl
+row-passes q p go None n = rw (ne_eqb p.kind 1 n) refl
 
 -- and the frames
 frames-pass :
@@ -53,26 +50,24 @@ frames-stay q p go [] l = absurd (omega arith)
 -- ---- one item
 
 -- by the row known after a line block
-abbrev pub after_row : (RowFound → Heard) → LineHeard → Heard
-after_row go (heard.Is r) = go r
-after_row go heard.Unread = fault 9
+abbrev pub after_row : (Option LineTableRow → Heard) → Result (Option LineTableRow) ℕ → Heard
+after_row go (Ok r) = go r
+after_row go (Err n) = fault n
 
 line_read :
-    (go to : RowFound → Heard) → ((r : RowFound) → go r ≡ to r) → (l : LineRead) →
+    (go to : Option LineTableRow → Heard) → ((r : Option LineTableRow) → go r ≡ to r) → (l : Result (Option LineTableRow) Cause) →
     after_line go l ≡ after_row to (as_heard l)
-line_read go to h (line.Row r) = h (found.Row r)
-line_read go to h line.Nothing = h found.Nothing
-line_read go to h line.Short = refl
-line_read go to h line.Wide = refl
+line_read go to h (Ok r) = h r
+line_read go to h (Err c) = refl
 
 module _ (q : Ask) (p : Piece) (ps : List Piece) where
   -- a line block
   pub hear-line :
-      (r : RowFound) (fs : List InlineFrame) → p.kind ≡ 1 →
+      (r : Option LineTableRow) (fs : List InlineFrame) → p.kind ≡ 1 →
       hear q (p ∷ ps) r fs ≡ after_row (λ s. hear q ps s fs) (line_heard p.bytes q.symbol q.addr r)
   unfolding hear hear_row line_heard
-  hear-line (found.Row r) fs k = frames-pass q p (λ gs. hear q ps (found.Row r) gs) fs (λ e. omega arith)
-  hear-line found.Nothing fs k =
+  hear-line (Some r) fs k = frames-pass q p (λ gs. hear q ps (Some r) gs) fs (λ e. omega arith)
+  hear-line None fs k =
       rw (eq-eqb p.kind 1 k)
       (line_read
       (λ s. hear_frames q p (λ gs. hear q ps s gs) fs)
@@ -80,7 +75,7 @@ module _ (q : Ask) (p : Piece) (ps : List Piece) where
       (λ s. frames-pass q p (λ gs. hear q ps s gs) fs (λ e. omega arith))
       (line_row p.bytes q.symbol q.addr))
 
-  module _ (r : RowFound) (fs : List InlineFrame) (not-Line : p.kind ≡ 1 → ⊥) where
+  module _ (r : Option LineTableRow) (fs : List InlineFrame) (not-Line : p.kind ≡ 1 → ⊥) where
     first : hear q (p ∷ ps) r fs ≡ hear_frames q p (λ gs. hear q ps r gs) fs
     unfolding hear
     first = row-passes q p (λ s. hear_frames q p (λ gs. hear q ps s gs) fs) r not-Line
@@ -95,7 +90,7 @@ module _ (q : Ask) (p : Piece) (ps : List Piece) where
 
   -- an inline block where none is
   pub hear-block :
-      (r : RowFound) → p.kind ≡ 2 → q.inlining ≡ true →
+      (r : Option LineTableRow) → p.kind ≡ 2 → q.inlining ≡ true →
       hear q (p ∷ ps) r []
       ≡ after_block (λ gs. hear q ps r gs) (block_of q.symbol.0 q.addr.0 q.room p.bytes)
   unfolding hear_frames
@@ -103,16 +98,23 @@ module _ (q : Ask) (p : Piece) (ps : List Piece) where
 
 -- ---- `hear_line`
 
-module _ (bytes : List ℕ) (symbol addr : Address) (row : RowFound) where
-  pub heard-row : (r : LineTableRow) → row ≡ found.Row r → heard.Is row ≡ line_heard bytes symbol addr row
+module _ (bytes : List ℕ) (symbol addr : Address) (row : Option LineTableRow) where
+  pub heard-row : IsTrue (is_some row) → Ok row ≡ line_heard bytes symbol addr row
   unfolding line_heard
-  heard-row r e = rw e refl
+  heard-row k = go row k
+    where
+      go : (x : Option LineTableRow) → IsTrue (is_some x) → Ok x ≡ line_heard bytes symbol addr x
+      go (Some r) k = refl
+      go None k = absurd (false≢true k)
 
-  pub heard-read :
-      row ≡ found.Nothing → (x : LineRead) → x ≡ line_row bytes symbol addr → (y : LineRead) → x ≡ y →
-      as_heard y ≡ line_heard bytes symbol addr row
-  unfolding line_heard
-  heard-read n x X y e = rw (n, ← X, e) refl
+  module _ (n : row ≡ None) (x : Result (Option LineTableRow) Cause) (X : x ≡ line_row bytes symbol addr) where
+    pub heard-read : (r : Option LineTableRow) → x ≡ Ok r → Ok r ≡ line_heard bytes symbol addr row
+    unfolding line_heard
+    heard-read r e = rw (n, ← X, e) refl
+
+    pub heard-unread : (c : Cause) → x ≡ Err c → Err 9 ≡ line_heard bytes symbol addr row
+    unfolding line_heard
+    heard-unread c e = rw (n, ← X, e) refl
 
 -- ---- never more frames than room
 
@@ -122,18 +124,16 @@ Roomy room (fault n) = 0 ≤ room
 
 module _ (q : Ask) (p : Piece) where
   row-roomy :
-      (go : RowFound → Heard) (r : RowFound) → ((s : RowFound) → Roomy q.room (go s)) →
+      (go : Option LineTableRow → Heard) (r : Option LineTableRow) → ((s : Option LineTableRow) → Roomy q.room (go s)) →
       Roomy q.room (hear_row q p go r)
   unfolding hear_row
-  row-roomy go (found.Row r) h = h (found.Row r)
-  row-roomy go found.Nothing h = tested (eqb p.kind 1) (line_row p.bytes q.symbol q.addr)
+  row-roomy go (Some r) h = h (Some r)
+  row-roomy go None h = tested (eqb p.kind 1) (line_row p.bytes q.symbol q.addr)
     where
-      tested : (b : Bool) (l : LineRead) → Roomy q.room (pick b (after_line go l) (go found.Nothing))
-      tested false l = h found.Nothing
-      tested true (line.Row r) = h (found.Row r)
-      tested true line.Nothing = h found.Nothing
-      tested true line.Short = omega arith
-      tested true line.Wide = omega arith
+      tested : (b : Bool) (l : Result (Option LineTableRow) Cause) → Roomy q.room (pick b (after_line go l) (go None))
+      tested false l = h None
+      tested true (Ok r) = h r
+      tested true (Err c) = omega arith
 
   frames-roomy :
       (go : List InlineFrame → Heard) (fs : List InlineFrame) → length fs ≤ q.room →
@@ -153,7 +153,7 @@ module _ (q : Ask) (p : Piece) where
       tested true true (refused n) e = omega arith
 
 hear-roomy :
-    (q : Ask) (ps : List Piece) (r : RowFound) (fs : List InlineFrame) → length fs ≤ q.room →
+    (q : Ask) (ps : List Piece) (r : Option LineTableRow) (fs : List InlineFrame) → length fs ≤ q.room →
     Roomy q.room (hear q ps r fs)
 unfolding hear
 hear-roomy q [] r fs l = l
@@ -162,6 +162,6 @@ hear-roomy q (p ∷ ps) r fs l =
     (λ s. frames-roomy q p (λ gs. hear q ps s gs) fs l (λ gs m. hear-roomy q ps s gs m))
 
 pub heard-room :
-    (q : Ask) (ps : List Piece) (r s : RowFound) (fs : List InlineFrame) → hear q ps r [] ≡ known s fs →
+    (q : Ask) (ps : List Piece) (r s : Option LineTableRow) (fs : List InlineFrame) → hear q ps r [] ≡ known s fs →
     length fs ≤ q.room
 heard-room q ps r s fs e = subst (Roomy q.room) e (hear-roomy q ps r [] (omega arith))

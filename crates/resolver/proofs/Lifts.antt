@@ -1,5 +1,6 @@
 -- The later frames as records: the seven stores of one, and the loop that lifts them (`put_row` and `rise`).
 -- Assumes nothing.
+use Rattle.std.proofs.Common.{Ok, Err, Result}
 use Prim.Native.Nat.{ℕ, suc, ◌+◌, ◌-◌, ◌*◌, ◌<◌, ◌≤◌}
 use mathlib.Core.List.{List, [], ◌∷◌, ◌++◌, append_assoc}
 use mathlib.Core.Path.{◌≡◌, refl, sym, ap, subst, ◌∙◌}
@@ -11,9 +12,6 @@ use Rattle.types.specs.declared.Frame.{Frame}
 use Rattle.inline.specs.Store.{frame_at}
 use Rattle.parser.specs.declared.Tables.{Tables}
 use Rattle.resolver.specs.declared.Place.{Place}
-use Rattle.resolver.specs.declared.sites.CallRead.{CallRead}
-use Rattle.resolver.specs.declared.sites.CallRead.TheVariants as call
-use Rattle.resolver.specs.declared.rising.Risen.TheVariants as risen
 use Rattle.resolver.specs.Stages.{record_of, place_in, call_at}
 use Rattle.resolver.specs.Rows.{
   numbers_of,
@@ -112,7 +110,7 @@ module _ (file : List ℕ) (t : Tables) (frames : List ℕ) (count : ℕ) (under
 
   refuses :
       (exit : List ℕ) (n : ℕ) → length exit ≡ length entry → lift_all file t frames count under row ≡ no n →
-      Rises file t frames count under row entry exit (risen.Refused n)
+      Rises file t frames count under row entry exit (Err n)
   unfolding lifted_frames flat_frames
   refuses exit n k e = record { says = rw e refl; records = rw e refl; kept = k }
 
@@ -128,7 +126,7 @@ module _ (file : List ℕ) (t : Tables) (frames : List ℕ) (count : ℕ) (under
       longer = omega (arith, R.many, length-append R.made (record_of name p ∷ []))
 
     -- a frame ahead
-    module _ (l : k < count) (x : CallRead) (X : x ≡ call_at file t (frame_at k frames)) where
+    module _ (l : k < count) (x : Result Frame ℕ) (X : x ≡ call_at file t (frame_at k frames)) where
       ahead : lift_all file t frames count under row
           ≡ then_lift
           (λ g. lift file t row (R.made ++ record_of name (place_in g) ∷ []) g.name
@@ -143,7 +141,7 @@ module _ (file : List ℕ) (t : Tables) (frames : List ℕ) (count : ℕ) (under
           (frames_from (k + 1) (count - k - 1) frames))) (sym X)
 
       pub rises-refused :
-          (n : ℕ) → x ≡ call.Refused n → Rises file t frames count under row entry out (risen.Refused n)
+          (n : ℕ) → x ≡ Err n → Rises file t frames count under row entry out (Err n)
       rises-refused n e =
           refuses out n R.kept
           (ahead
@@ -153,7 +151,7 @@ module _ (file : List ℕ) (t : Tables) (frames : List ℕ) (count : ℕ) (under
           (frames_from (k + 1) (count - k - 1) frames))) e)
 
       pub rising-next :
-          (g : Frame) → x ≡ call.Is g → (p : Place) → p ≡ place_in g → (exit : List ℕ) →
+          (g : Frame) → x ≡ Ok g → (p : Place) → p ≡ place_in g → (exit : List ℕ) →
           PutsRow out (k - 2) name p exit → Rising exit g.name (k + 1)
       rising-next g e p P exit W =
           let n : count - k - 1 ≡ count - (k + 1) = omega arith in
@@ -182,7 +180,7 @@ module _ (file : List ℕ) (t : Tables) (frames : List ℕ) (count : ℕ) (under
     -- none ahead: the last gets the row's position
     pub rises-all :
         count ≤ k → (exit : List ℕ) → PutsRow out (count - 2) name row exit →
-        Rises file t frames count under row entry exit risen.All
+        Rises file t frames count under row entry exit (Ok tt)
     unfolding lift lifted_frames
     rises-all l exit W =
         let c : count ≡ k = omega (arith, R.high) in

@@ -1,5 +1,6 @@
 -- More room changes nothing but 14: a lookup with less room either refuses with 14, or is the lookup with more.
 -- Assumes nothing.
+use Rattle.std.proofs.Common.{Some, None, Ok, Err, Option, Result}
 use Prim.Native.Nat.{ℕ, ◌≤◌}
 use mathlib.Core.Bool.{Bool, true, false}
 use mathlib.Core.List.{List, [], ◌∷◌}
@@ -10,18 +11,10 @@ use Rattle.reads.specs.Pick.{pick}
 use Rattle.types.specs.declared.Address.{Address}
 use Rattle.types.specs.declared.Options.{Options}
 use Rattle.types.specs.declared.InlineFrame.{InlineFrame}
-use Rattle.linetab.specs.declared.RowFound.{RowFound}
-use Rattle.linetab.specs.declared.RowFound.TheVariants as found
-use Rattle.linetab.specs.declared.LineRead.{LineRead}
-use Rattle.linetab.specs.declared.LineRead.TheVariants as line
 use Rattle.linetab.specs.Rows.{line_row}
 use Rattle.inline.specs.Block.{Block, listed, refused}
 use Rattle.inline.proofs.MoreRoom.{block_more}
 use Rattle.parser.specs.declared.Tables.{Tables}
-use Rattle.parser.specs.declared.Opened.{Opened}
-use Rattle.parser.specs.declared.Opened.TheVariants as opened
-use Rattle.parser.specs.declared.Found.{Found}
-use Rattle.parser.specs.declared.Found.TheVariants as place
 use Rattle.parser.specs.Header.{opened_of}
 use Rattle.parser.specs.Search.{find_of}
 use Rattle.parser.specs.Entries.{symbol_at, covered_by}
@@ -31,6 +24,8 @@ use Rattle.resolver.specs.Heard.{ask, Heard, fault, after_line, hear_row, after_
 use Rattle.resolver.specs.Says.{refuses, after_heard, say_more, say_of}
 use Rattle.resolver.specs.Spell.{refusing, spell}
 use Rattle.resolver.specs.Lookup.{answer_of, answer_at, after_found, after_opened, lookup_of}
+use Rattle.linetab.specs.declared.LineTableRow.{LineTableRow}
+use Rattle.leb128.specs.declared.Cause.{Cause}
 
 -- a refusal of its own, or the same
 abbrev Or : {A : Type 0} → A → A → A → Type 0
@@ -49,19 +44,17 @@ map-or f out x v (inr e) = inr (ap f e)
 
 module _ (room more : ℕ) (l : room ≤ more) (symbol addr : Address) (inlining : Bool) where
   -- a line block, with `few` and `many` for what follows it
-  module _ (few many : RowFound → Heard) (h : (r : RowFound) → Or (fault 14) (few r) (many r)) where
-    line-more : (x : LineRead) → Or (fault 14) (after_line few x) (after_line many x)
-    line-more (line.Row r) = h (found.Row r)
-    line-more line.Nothing = h found.Nothing
-    line-more line.Short = inr refl
-    line-more line.Wide = inr refl
+  module _ (few many : Option LineTableRow → Heard) (h : (r : Option LineTableRow) → Or (fault 14) (few r) (many r)) where
+    line-more : (x : Result (Option LineTableRow) Cause) → Or (fault 14) (after_line few x) (after_line many x)
+    line-more (Ok r) = h r
+    line-more (Err c) = inr refl
 
-    row_more : (p : Piece) (r : RowFound) →
+    row_more : (p : Piece) (r : Option LineTableRow) →
         Or (fault 14) (hear_row (ask symbol addr room inlining) p few r) (hear_row (ask symbol addr more inlining) p many r)
     unfolding hear_row
-    row_more p (found.Row r) = h (found.Row r)
-    row_more p found.Nothing =
-        pick-or (fault 14) (eqb p.kind 1) _ _ _ _ (line-more (line_row p.bytes symbol addr)) (h found.Nothing)
+    row_more p (Some r) = h (Some r)
+    row_more p None =
+        pick-or (fault 14) (eqb p.kind 1) _ _ _ _ (line-more (line_row p.bytes symbol addr)) (h None)
 
   -- an inline block
   module _ (few many : List InlineFrame → Heard) (h : (fs : List InlineFrame) → Or (fault 14) (few fs) (many fs)) where
@@ -87,7 +80,7 @@ module _ (room more : ℕ) (l : room ≤ more) (symbol addr : Address) (inlining
         (h []))
         (h [])
 
-  hear-more : (ps : List Piece) (r : RowFound) (fs : List InlineFrame) →
+  hear-more : (ps : List Piece) (r : Option LineTableRow) (fs : List InlineFrame) →
       Or (fault 14) (hear (ask symbol addr room inlining) ps r fs) (hear (ask symbol addr more inlining) ps r fs)
   unfolding hear
   hear-more [] r fs = inr refl
@@ -111,7 +104,7 @@ module _ (room more : ℕ) (l : room ≤ more) (addr : Address) (o : Options) wh
       (say_more b d (ask symbol addr more o.inlining) code)
   unfolding say_more after_heard
   say-by b symbol d true =
-      map-or (after_heard b d) (fault 14) _ _ (hear-more room more l symbol addr o.inlining d.items found.Nothing [])
+      map-or (after_heard b d) (fault 14) _ _ (hear-more room more l symbol addr o.inlining d.items None [])
   say-by b symbol d false = inr refl
 
   say-more : (b : Book) (symbol : Address) (d : Data) →
@@ -129,17 +122,17 @@ module _ (room more : ℕ) (l : room ≤ more) (addr : Address) (o : Options) wh
       map-or (spell (book_of file t) t.strings.place symbol) (refuses 14) _ _ (say-more (book_of file t) symbol d)
   answer-more file t symbol unread = inr refl
 
-  found-more : (file : List ℕ) (t : Tables) (x : Found) →
+  found-more : (file : List ℕ) (t : Tables) (x : Option ℕ) →
       Or (refusing 14) (after_found file t addr o room x) (after_found file t addr o more x)
   unfolding after_found answer_at
-  found-more file t (place.At i) = answer-more file t (symbol_at file t i) (data_of file t i)
-  found-more file t place.Unknown = inr refl
+  found-more file t (Some i) = answer-more file t (symbol_at file t i) (data_of file t i)
+  found-more file t None = inr refl
 
-  opened-more : (file : List ℕ) (x : Opened) →
+  opened-more : (file : List ℕ) (x : Result Tables ℕ) →
       Or (refusing 14) (after_opened file addr o room x) (after_opened file addr o more x)
   unfolding after_opened
-  opened-more file (opened.Is t) = found-more file t (find_of file t addr)
-  opened-more file (opened.Refused n) = inr refl
+  opened-more file (Ok t) = found-more file t (find_of file t addr)
+  opened-more file (Err n) = inr refl
 
   pub lookup-more : (file : List ℕ) →
       (lookup_of file addr o room ≡ refusing 14) ⊎ (lookup_of file addr o room ≡ lookup_of file addr o more)

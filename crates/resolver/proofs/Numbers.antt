@@ -1,6 +1,7 @@
 -- Which numbers a lookup can give: at most 14, at most 6 without code info, at most 9 without inlining; and which of
 -- them come from which stage.
 -- Assumes nothing.
+use Rattle.std.proofs.Common.{Some, None, Ok, Err, Option, Result}
 use Prim.Native.Nat.{ℕ, ◌+◌, ◌*◌, ◌≤◌, ◌<◌}
 use mathlib.Core.Bool.{Bool, true, false}
 use mathlib.Core.List.{List}
@@ -11,18 +12,10 @@ use lib.ListN.{length}
 use native.Mathlib.Omega.{arith}
 use Rattle.reads.specs.Pick.{pick}
 use Rattle.reads.specs.Answers.{u16_at, u32_at}
-use Rattle.reads.specs.declared.Read16.{Read16}
-use Rattle.reads.specs.declared.Read16.TheVariants as r16
-use Rattle.reads.specs.declared.Read32.{Read32}
-use Rattle.reads.specs.declared.Read32.TheVariants as r32
 use Rattle.std.proofs.lemmas.Bool.{cases_lt}
 use Rattle.types.specs.declared.Address.{Address}
 use Rattle.types.specs.declared.Options.{Options}
-use Rattle.linetab.specs.declared.RowFound.TheVariants as found
 use Rattle.parser.specs.declared.Tables.{Tables}
-use Rattle.parser.specs.declared.Opened.{Opened}
-use Rattle.parser.specs.declared.Opened.TheVariants as opened
-use Rattle.parser.specs.declared.Found.TheVariants as place
 use Rattle.parser.specs.Numbers.{num_at}
 use Rattle.parser.specs.Header.{numbers_of, file_count_place, files_place, tables_with, with_files, tables_of}
 use Rattle.parser.specs.Header.{after_version, on_version, on_magic, opened_of}
@@ -41,21 +34,21 @@ use Rattle.resolver.proofs.Refusals.{Met, unopened, nowhere, no-data, unsaid, lo
 
 -- ---- opening: 2, 3, 4
 
-abbrev Opens : Opened → Type 0
-Opens x = (n : ℕ) → x ≡ opened.Refused n → (2 ≤ n) × (n ≤ 4)
+abbrev Opens : Result Tables ℕ → Type 0
+Opens x = (n : ℕ) → x ≡ Err n → (2 ≤ n) × (n ≤ 4)
 
-is-opens : (t : Tables) → Opens (opened.Is t)
+is-opens : (t : Tables) → Opens (Ok t)
 is-opens t n e = never (let z : ◌≡◌ {A = ℕ} 0 1 = cc in z)
 
-refused-opens : (m : ℕ) → 2 ≤ m → m ≤ 4 → Opens (opened.Refused m)
+refused-opens : (m : ℕ) → 2 ≤ m → m ≤ 4 → Opens (Err m)
 refused-opens m l h n e = let q : m ≡ n = cc in (omega arith, omega arith)
 
-pick-opens : (b : Bool) (x y : Opened) → Opens x → Opens y → Opens (pick b x y)
+pick-opens : (b : Bool) (x y : Result Tables ℕ) → Opens x → Opens y → Opens (pick b x y)
 pick-opens true x y h k = h
 pick-opens false x y h k = k
 
 module _ (file : List ℕ) where
-  two : Opens (opened.Refused 2)
+  two : Opens (Err 2)
   two = refused-opens 2 (omega arith) (omega arith)
 
   files-opens : (n : ℕ) → Opens (with_files file (numbers_of file) n)
@@ -66,23 +59,23 @@ module _ (file : List ℕ) where
       (pick-opens (leb (h.strings_offset + h.strings_size) (length file)) _ _ (is-opens (tables_with h n)) two)
       two
 
-  version-opens : (r : Read16) → Opens (on_version file r)
+  version-opens : (r : Option ℕ) → Opens (on_version file r)
   unfolding on_version after_version tables_of
-  version-opens (r16.Value v) =
+  version-opens (Some v) =
       pick-opens (eqb v 1) _ _
       (pick-opens (leb 48 (length file)) _ _
       (pick-opens (leb (files_place (numbers_of file)) (length file)) _ _
       (files-opens (num_at 4 file (file_count_place (numbers_of file)))) two) two)
       (refused-opens 4 (omega arith) (omega arith))
-  version-opens r16.Unread = two
+  version-opens None = two
 
-  magic-opens : (r : Read32) → Opens (on_magic file r)
+  magic-opens : (r : Option ℕ) → Opens (on_magic file r)
   unfolding on_magic
-  magic-opens (r32.Value m) =
+  magic-opens (Some m) =
       pick-opens (eqb m 0x4753594d) _ _ (version-opens (u16_at file 4)) (refused-opens 3 (omega arith) (omega arith))
-  magic-opens r32.Unread = two
+  magic-opens None = two
 
-  pub opened-no : (n : ℕ) → opened_of file ≡ opened.Refused n → (2 ≤ n) × (n ≤ 4)
+  pub opened-no : (n : ℕ) → opened_of file ≡ Err n → (2 ≤ n) × (n ≤ 4)
   unfolding opened_of
   opened-no = magic-opens (u32_at file 0)
 
@@ -96,7 +89,7 @@ module _ (b : Book) (symbol : Address) (d : Data) (addr : Address) (o : Options)
   unsaid-no (uncovered c e) = inl e
   unsaid-no (unnamed c m e) = inr (omega arith, omega arith)
   unsaid-no (unheard A h) =
-      let k = heard-no (ask symbol addr room o.inlining) d.items found.Nothing n h in
+      let k = heard-no (ask symbol addr room o.inlining) d.items None n h in
       inr (omega (arith, k.0), k.1)
   unsaid-no (unplaced r fs A h u) =
       let k = place-no b r.file_idx.0 n u in inr (omega (arith, k.0), omega (arith, k.1))
@@ -116,7 +109,7 @@ module _ (b : Book) (symbol : Address) (d : Data) (addr : Address) (o : Options)
   unsaid-off c (uncovered k e) = omega arith
   unsaid-off c (unnamed k m e) = omega arith
   unsaid-off c (unheard A h) =
-      let k = heard-off (ask symbol addr room o.inlining) d.items found.Nothing n c h in omega arith
+      let k = heard-off (ask symbol addr room o.inlining) d.items None n c h in omega arith
   unsaid-off c (unplaced r fs A h u) = let k = place-no b r.file_idx.0 n u in omega (arith, k.1)
   unsaid-off c (first-unnamed r f fs s A h p m e) = omega arith
   unsaid-off c (uncalled r f fs s A h p m u) =
@@ -170,10 +163,10 @@ module _ (file : List ℕ) (addr : Address) (o : Options) (room : ℕ) where
 
   -- 2, 3 and 4 are those of opening
   pub number-opening : (n : ℕ) → 2 ≤ n → n ≤ 4 → (lookup_of file addr o room).answer.number ≡ n →
-      opened_of file ≡ opened.Refused n
+      opened_of file ≡ Err n
   number-opening n l h p = go (lookup-met file addr o room n p (omega arith))
     where
-      go : Met file addr o room n → opened_of file ≡ opened.Refused n
+      go : Met file addr o room n → opened_of file ≡ Err n
       go (unopened e) = e
       go (nowhere t e w q) = absurd (omega arith)
       go (no-data t i e f k q) = absurd (omega arith)
@@ -183,17 +176,17 @@ module _ (file : List ℕ) (addr : Address) (o : Options) (room : ℕ) where
           (λ (l : (6 ≤ n) × (n ≤ 14)). absurd (omega (arith, l.0)))
           (unsaid-no (book_of file t) (symbol_at file t i) d addr o room n u)
 
-  module _ (t : Tables) (e : opened_of file ≡ opened.Is t) where
+  module _ (t : Tables) (e : opened_of file ≡ Ok t) where
     -- 1: the address is nowhere, or the entry's size doesn't reach it
     pub number-unknown : (lookup_of file addr o room).answer.number ≡ 1 →
         Nowhere file t addr
-        ⊎ ((i : ℕ) × (d : Data) × (find_of file t addr ≡ place.At i) × (data_of file t i ≡ is d)
+        ⊎ ((i : ℕ) × (d : Data) × (find_of file t addr ≡ Some i) × (data_of file t i ≡ is d)
         × (covered_by addr (symbol_at file t i) d.size ≡ false))
     number-unknown p = go (lookup-met file addr o room 1 p (omega arith))
       where
         go : Met file addr o room 1 →
             Nowhere file t addr
-            ⊎ ((i : ℕ) × (d : Data) × (find_of file t addr ≡ place.At i) × (data_of file t i ≡ is d)
+            ⊎ ((i : ℕ) × (d : Data) × (find_of file t addr ≡ Some i) × (data_of file t i ≡ is d)
             × (covered_by addr (symbol_at file t i) d.size ≡ false))
         go (unopened x) = let k = opened-no file 1 x in absurd (omega (arith, k.0))
         go (nowhere s x w q) = let h : s ≡ t = cc in inl (rw (← h) w)
@@ -205,7 +198,7 @@ module _ (file : List ℕ) (addr : Address) (o : Options) (room : ℕ) where
             here (uncovered c q) = c
             here (unnamed c m q) = absurd (omega arith)
             here (unheard A h) =
-                let k = heard-no (ask (symbol_at file s i) addr room o.inlining) d.items found.Nothing 1 h in
+                let k = heard-no (ask (symbol_at file s i) addr room o.inlining) d.items None 1 h in
                 absurd (omega (arith, k.0))
             here (unplaced r fs A h u) =
                 let k = place-no (book_of file s) r.file_idx.0 1 u in absurd (omega (arith, k.0))
@@ -216,10 +209,10 @@ module _ (file : List ℕ) (addr : Address) (o : Options) (room : ℕ) where
 
     -- 5: the entry's information doesn't read
     pub number-unread : (lookup_of file addr o room).answer.number ≡ 5 →
-        (i : ℕ) × (find_of file t addr ≡ place.At i) × (data_of file t i ≡ unread)
+        (i : ℕ) × (find_of file t addr ≡ Some i) × (data_of file t i ≡ unread)
     number-unread p = go (lookup-met file addr o room 5 p (omega arith))
       where
-        go : Met file addr o room 5 → (i : ℕ) × (find_of file t addr ≡ place.At i) × (data_of file t i ≡ unread)
+        go : Met file addr o room 5 → (i : ℕ) × (find_of file t addr ≡ Some i) × (data_of file t i ≡ unread)
         go (unopened x) = let k = opened-no file 5 x in absurd (omega (arith, k.1))
         go (nowhere s x w q) = absurd (omega arith)
         go (no-data s i x f k q) = let h : t ≡ s = cc in rw h (i, f, k)
@@ -231,12 +224,12 @@ module _ (file : List ℕ) (addr : Address) (o : Options) (room : ℕ) where
 
     -- 6 without code info: the address is covered, and the symbol's name doesn't read
     pub number-unnamed : o.code_info ≡ false → (lookup_of file addr o room).answer.number ≡ 6 →
-        (i : ℕ) × (d : Data) × (find_of file t addr ≡ place.At i) × (data_of file t i ≡ is d)
+        (i : ℕ) × (d : Data) × (find_of file t addr ≡ Some i) × (data_of file t i ≡ is d)
         × (covered_by addr (symbol_at file t i) d.size ≡ true) × (reads_name (book_of file t) d.name ≡ false)
     number-unnamed c p = go (lookup-met file addr o room 6 p (omega arith))
       where
         go : Met file addr o room 6 →
-            (i : ℕ) × (d : Data) × (find_of file t addr ≡ place.At i) × (data_of file t i ≡ is d)
+            (i : ℕ) × (d : Data) × (find_of file t addr ≡ Some i) × (data_of file t i ≡ is d)
             × (covered_by addr (symbol_at file t i) d.size ≡ true) × (reads_name (book_of file t) d.name ≡ false)
         go (unopened x) = let k = opened-no file 6 x in absurd (omega (arith, k.1))
         go (nowhere s x w q) = absurd (omega arith)

@@ -1,5 +1,6 @@
 -- The two ways out of a lookup: a refusal, or what the found entry says; and how what an entry says is made.
 -- Assumes nothing.
+use Rattle.std.proofs.Common.{Some, None, Ok, Err, Option, Result}
 use Prim.Native.Nat.{ℕ}
 use mathlib.Core.Bool.{Bool, true, false}
 use mathlib.Core.List.{List, [], ◌∷◌}
@@ -9,12 +10,7 @@ use Rattle.types.specs.declared.Address.{Address}
 use Rattle.types.specs.declared.Options.{Options}
 use Rattle.types.specs.declared.InlineFrame.{InlineFrame}
 use Rattle.linetab.specs.declared.LineTableRow.{LineTableRow}
-use Rattle.linetab.specs.declared.RowFound.TheVariants as found
 use Rattle.parser.specs.declared.Tables.{Tables}
-use Rattle.parser.specs.declared.Opened.{Opened}
-use Rattle.parser.specs.declared.Opened.TheVariants as opened
-use Rattle.parser.specs.declared.Found.{Found}
-use Rattle.parser.specs.declared.Found.TheVariants as place
 use Rattle.parser.specs.Header.{opened_of}
 use Rattle.parser.specs.Search.{find_of}
 use Rattle.parser.specs.Entries.{symbol_at, covered_by}
@@ -37,13 +33,13 @@ pub data Saying (b : Book) (symbol : Address) (d : Data) (addr : Address) (o : O
   unasked : covered_by addr symbol d.size ≡ true → reads_name b d.name ≡ true → o.code_info ≡ false →
       name ≡ d.name → p ≡ absent → cs ≡ [] → Saying b symbol d addr o room name p cs
   no_row : (fs : List InlineFrame) → Asked b symbol d addr o →
-      heard_of symbol d addr o room ≡ known found.Nothing fs →
+      heard_of symbol d addr o room ≡ known None fs →
       name ≡ d.name → p ≡ absent → cs ≡ [] → Saying b symbol d addr o room name p cs
   no_frames : (r : LineTableRow) (s : Site) → Asked b symbol d addr o →
-      heard_of symbol d addr o room ≡ known (found.Row r) [] → site_of b r.file_idx.0 r.file_line.0 ≡ is s →
+      heard_of symbol d addr o room ≡ known (Some r) [] → site_of b r.file_idx.0 r.file_line.0 ≡ is s →
       name ≡ d.name → p ≡ at s → cs ≡ [] → Saying b symbol d addr o room name p cs
   with-frames : (r : LineTableRow) (f : InlineFrame) (fs : List InlineFrame) (s : Site) (ds : List Call) →
-      Asked b symbol d addr o → heard_of symbol d addr o room ≡ known (found.Row r) (f ∷ fs) →
+      Asked b symbol d addr o → heard_of symbol d addr o room ≡ known (Some r) (f ∷ fs) →
       site_of b r.file_idx.0 r.file_line.0 ≡ is s → reads_name b f.name.0 ≡ true →
       calls_of b fs ≡ calls ds → name ≡ f.name.0 → p ≡ at (upper s ds) → cs ≡ raised s ds →
       Saying b symbol d addr o room name p cs
@@ -65,7 +61,7 @@ module _ (b : Book) (symbol : Address) (d : Data) (addr : Address) (o : Options)
 
     module _ (A : Asked b symbol d addr o) where
       frames-made : (r : LineTableRow) (fs : List InlineFrame) →
-          heard_of symbol d addr o room ≡ known (found.Row r) fs → (k : SiteRead) →
+          heard_of symbol d addr o room ≡ known (Some r) fs → (k : SiteRead) →
           site_of b r.file_idx.0 r.file_line.0 ≡ k → with_frames b d fs k ≡ says size name p cs → Made
       unfolding with_frames
       frames-made r fs h (no m) k e = never (let z : ◌≡◌ {A = ℕ} 0 1 = cc in z)
@@ -81,8 +77,8 @@ module _ (b : Book) (symbol : Address) (d : Data) (addr : Address) (o : Options)
       heard-made : (h : Heard) → heard_of symbol d addr o room ≡ h → after_heard b d h ≡ says size name p cs → Made
       unfolding after_heard
       heard-made (fault m) h e = never (let z : ◌≡◌ {A = ℕ} 0 1 = cc in z)
-      heard-made (known found.Nothing fs) h e = (cc, no_row fs A h (cc) (cc) (cc))
-      heard-made (known (found.Row r) fs) h e =
+      heard-made (known None fs) h e = (cc, no_row fs A h (cc) (cc) (cc))
+      heard-made (known (Some r) fs) h e =
           frames-made r fs h (site_of b r.file_idx.0 r.file_line.0) refl e
 
     more-made : covered_by addr symbol d.size ≡ true → reads_name b d.name ≡ true → (t : Bool) →
@@ -112,8 +108,8 @@ pub record Entered (file : List ℕ) (addr : Address) : Type 0 where
   pub tables : Tables
   pub index : ℕ
   pub data-of : Data
-  pub opens : opened_of file ≡ opened.Is tables
-  pub finds : find_of file tables addr ≡ place.At index
+  pub opens : opened_of file ≡ Ok tables
+  pub finds : find_of file tables addr ≡ Some index
   pub reads : data_of file tables index ≡ is data-of
 
 abbrev pub entered_says : {file : List ℕ} {addr : Address} → Entered file addr → Options → ℕ → Said
@@ -143,8 +139,8 @@ module _ (file : List ℕ) (addr : Address) (o : Options) (room : ℕ) where
       said L size name p cs e (lookup-entered file addr o room L ∙ ap (entered_spells L) e)
   entered-outcome L (refuses n) e = refused n (lookup-entered file addr o room L ∙ ap (entered_spells L) e)
 
-  module _ (t : Tables) (e : opened_of file ≡ opened.Is t) where
-    data-outcome : (i : ℕ) → find_of file t addr ≡ place.At i → (k : DataRead) → data_of file t i ≡ k →
+  module _ (t : Tables) (e : opened_of file ≡ Ok t) where
+    data-outcome : (i : ℕ) → find_of file t addr ≡ Some i → (k : DataRead) → data_of file t i ≡ k →
         Outcome file addr o room
     unfolding lookup_of after_opened after_found answer_at answer_of
     data-outcome i f (is d) k =
@@ -153,15 +149,15 @@ module _ (file : List ℕ) (addr : Address) (o : Options) (room : ℕ) where
         entered-outcome L (entered_says L o room) refl
     data-outcome i f unread k = refused 5 (rw (e, f, k))
 
-    found-outcome : (k : Found) → find_of file t addr ≡ k → Outcome file addr o room
+    found-outcome : (k : Option ℕ) → find_of file t addr ≡ k → Outcome file addr o room
     unfolding lookup_of after_opened after_found
-    found-outcome (place.At i) f = data-outcome i f (data_of file t i) refl
-    found-outcome place.Unknown f = refused 1 (rw (e, f))
+    found-outcome (Some i) f = data-outcome i f (data_of file t i) refl
+    found-outcome None f = refused 1 (rw (e, f))
 
-  opened-outcome : (k : Opened) → opened_of file ≡ k → Outcome file addr o room
+  opened-outcome : (k : Result Tables ℕ) → opened_of file ≡ k → Outcome file addr o room
   unfolding lookup_of after_opened
-  opened-outcome (opened.Is t) e = found-outcome t e (find_of file t addr) refl
-  opened-outcome (opened.Refused n) e = refused n (rw e)
+  opened-outcome (Ok t) e = found-outcome t e (find_of file t addr) refl
+  opened-outcome (Err n) e = refused n (rw e)
 
   pub outcome : Outcome file addr o room
   outcome = opened-outcome (opened_of file) refl

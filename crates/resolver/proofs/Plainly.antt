@@ -1,5 +1,6 @@
 -- The lookup without inlined calls: what the stages answer is the whole lookup's answer.
 -- Assumes nothing.
+use Rattle.std.proofs.Common.{Some, None, Ok, Err, Option, Result}
 use Prim.Native.Nat.{ℕ}
 use mathlib.Core.Bool.{Bool, true, false}
 use mathlib.Core.List.{List, []}
@@ -7,14 +8,9 @@ use mathlib.Core.Path.{◌≡◌, refl, ap, sym, ◌∙◌}
 use Rattle.types.specs.declared.Address.{Address}
 use Rattle.types.specs.Refusal.{refusal}
 use Rattle.linetab.specs.declared.LineTableRow.{LineTableRow}
-use Rattle.linetab.specs.declared.RowFound.TheVariants as found
 use Rattle.parser.specs.declared.Tables.{Tables}
 use Rattle.resolver.specs.declared.Entry.{Entry}
 use Rattle.resolver.specs.declared.Place.{Place}
-use Rattle.resolver.specs.declared.sites.PlaceRead.TheVariants as placed
-use Rattle.resolver.specs.declared.rows.RowRead.{RowRead}
-use Rattle.resolver.specs.declared.rows.RowRead.TheVariants as row
-use Rattle.resolver.specs.declared.landing.Landing.TheVariants as land
 use Rattle.resolver.specs.Data.{Data, items_at}
 use Rattle.resolver.specs.Book.{book_of}
 use Rattle.resolver.specs.Heard.{ask, Heard, hear}
@@ -30,30 +26,30 @@ use Rattle.resolver.proofs.Rowing.{Quiet, a-row, unread, quiet}
 
 module _ (file : List ℕ) (t : Tables) (e : Entry) (addr : Address) (items : ℕ) (i : items ≡ e.items)
     (symbol : Address) (s : symbol ≡ e.symbol) where
-  abbrev rows : RowRead
+  abbrev rows : Result (Option LineTableRow) ℕ
   rows = row_in symbol addr (items_at file items).list
 
   whole : on_row file t e rows ≡ row_rest file t e addr
   unfolding row_rest
   whole = rw (i, s)
 
-  pub rest-none : row.Nothing ≡ rows → plain_answer e ≡ row_rest file t e addr
+  pub rest-none : Ok None ≡ rows → plain_answer e ≡ row_rest file t e addr
   unfolding on_row
   rest-none h = ap (on_row file t e) h ∙ whole
 
-  pub rest-unread : row.Unread ≡ rows → refusal 9 ≡ row_rest file t e addr
+  pub rest-unread : (n : ℕ) → Err n ≡ rows → refusal n ≡ row_rest file t e addr
   unfolding on_row
-  rest-unread h = ap (on_row file t e) h ∙ whole
+  rest-unread n h = ap (on_row file t e) h ∙ whole
 
-  module _ (r : LineTableRow) (h : row.Row r ≡ rows) where
+  module _ (r : LineTableRow) (h : Ok (Some r) ≡ rows) where
     pub rest-refused :
-        (n : ℕ) → placed.Refused n ≡ place_at file t r.file_idx.0 r.file_line.0 →
+        (n : ℕ) → Err n ≡ place_at file t r.file_idx.0 r.file_line.0 →
         refusal n ≡ row_rest file t e addr
     unfolding on_row
     rest-refused n p = ap (on_place e) p ∙ ap (on_row file t e) h ∙ whole
 
     pub rest-placed :
-        (p : Place) → placed.Is p ≡ place_at file t r.file_idx.0 r.file_line.0 →
+        (p : Place) → Ok p ≡ place_at file t r.file_idx.0 r.file_line.0 →
         answer_with e e.name p 0 ≡ row_rest file t e addr
     unfolding on_row
     rest-placed p q = ap (on_place e) q ∙ ap (on_row file t e) h ∙ whole
@@ -62,11 +58,11 @@ module _ (file : List ℕ) (t : Tables) (e : Entry) (addr : Address) (items : �
 
 module _ (file : List ℕ) (addr : Address) where
   pub plain-refused :
-      (code : Bool) (n : ℕ) → landing_of file addr ≡ land.Refused n →
+      (code : Bool) (n : ℕ) → landing_of file addr ≡ Err n →
       refusal n ≡ (lookup_of file addr (plain_options code) 0).answer
   plain-refused code n h = sym (ap (λ l. l.answer) (not-landed file addr n h (plain_options code) 0))
 
-  module _ (t : Tables) (e : Entry) (h : landing_of file addr ≡ land.On t e) where
+  module _ (t : Tables) (e : Entry) (h : landing_of file addr ≡ Ok (t, e)) where
     at-site :
         (d : Data) → d.size ≡ e.size → spell_text (book_of file t) t.strings.place d.name ≡ e.name →
         (s : SiteRead) →
@@ -82,9 +78,9 @@ module _ (file : List ℕ) (addr : Address) where
         on_row file t e (row_heard x)
         ≡ (spell (book_of file t) t.strings.place e.symbol (after_heard (book_of file t) d x)).answer
     unfolding on_row spell after_heard place_at
-    by-heard d p q x (a-row (found.Row r)) =
+    by-heard d p q x (a-row (Some r)) =
         at-site d p q (site_of (book_of file t) r.file_idx.0 r.file_line.0)
-    by-heard d p q x (a-row found.Nothing) = rw (p, q)
+    by-heard d p q x (a-row None) = rw (p, q)
     by-heard d p q x unread = refl
 
     -- with code info, the entry with its row's position
@@ -93,10 +89,10 @@ module _ (file : List ℕ) (addr : Address) where
     with_code =
         let l = landed file addr t e h in
         by-heard l.said l.size l.name
-        (hear (ask e.symbol addr 0 false) (items_at file e.items).list found.Nothing [])
+        (hear (ask e.symbol addr 0 false) (items_at file e.items).list None [])
         (quiet e.symbol addr (items_at file e.items).list)
         ∙ ap (λ ps. (spell (book_of file t) t.strings.place e.symbol
-        (after_heard (book_of file t) l.said (hear (ask e.symbol addr 0 false) ps found.Nothing []))).answer)
+        (after_heard (book_of file t) l.said (hear (ask e.symbol addr 0 false) ps None []))).answer)
         (sym l.items)
         ∙ sym (ap (λ x. x.answer) (l.says (plain_options true) 0))
 

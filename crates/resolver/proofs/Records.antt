@@ -1,5 +1,6 @@
 -- The answer under a frame's name from its parts: each way out of `renamed`.
 -- Assumes nothing.
+use Rattle.std.proofs.Common.{Some, None, Ok, Err, Option, Result}
 use Prim.Native.Nat.{ℕ, ◌+◌, ◌-◌, ◌<◌}
 use mathlib.Core.List.{List, [], ◌∷◌, ◌++◌}
 use mathlib.Core.Path.{◌≡◌, refl, sym, ap, ◌∙◌}
@@ -10,18 +11,12 @@ use Rattle.types.specs.declared.Frame.{Frame}
 use Rattle.types.specs.declared.Answer.{Answer}
 use Rattle.types.specs.declared.InlineFrame.{InlineFrame}
 use Rattle.types.specs.Refusal.{refusal}
-use Rattle.strtab.specs.declared.TextRead.{TextRead}
-use Rattle.strtab.specs.declared.TextRead.TheVariants as text
 use Rattle.strtab.specs.Strings.{name_at}
 use Rattle.inline.specs.Store.{frame_at}
 use Rattle.parser.specs.declared.Tables.{Tables}
 use Rattle.parser.specs.Header.{Within}
 use Rattle.resolver.specs.declared.Entry.{Entry}
 use Rattle.resolver.specs.declared.Place.{Place}
-use Rattle.resolver.specs.declared.sites.CallRead.{CallRead}
-use Rattle.resolver.specs.declared.sites.CallRead.TheVariants as call
-use Rattle.resolver.specs.declared.rising.Risen.{Risen}
-use Rattle.resolver.specs.declared.rising.Risen.TheVariants as risen
 use Rattle.resolver.specs.Spell.{Looked, refusing}
 use Rattle.resolver.specs.Stages.{record_of, place_in, call_at, answer_with}
 use Rattle.resolver.specs.Rows.{
@@ -73,30 +68,30 @@ module _ (file : List ℕ) (t : Tables) (row : Place) where
       go :
           ((made : List Frame) (name : Text) → lift file t row made name fs ≡ lifted gs →
           length gs ≡ length made + 1 + length fs) →
-          (x : CallRead) →
+          (x : Result Frame ℕ) →
           then_lift (λ g. lift file t row (made ++ record_of name (place_in g) ∷ []) g.name fs) x ≡ lifted gs →
           length gs ≡ length made + 1 + length (f ∷ fs)
-      go h (call.Is g) e =
+      go h (Ok g) e =
           omega (
             arith,
             h (made ++ record_of name (place_in g) ∷ []) g.name e,
             length-append made (record_of name (place_in g) ∷ []),
           )
-      go h (call.Refused n) e = let z : ◌≡◌ {A = ℕ} 0 1 = cc in never z
+      go h (Err n) e = let z : ◌≡◌ {A = ℕ} 0 1 = cc in never z
 
-lifted-is : (l : Lifted) → risen.All ≡ as_risen l → l ≡ lifted (lifted_frames l)
+lifted-is : (l : Lifted) → Ok tt ≡ as_risen l → l ≡ lifted (lifted_frames l)
 unfolding lifted_frames
 lifted-is (lifted fs) e = refl
 lifted-is (no n) e = let z : ◌≡◌ {A = ℕ} 0 1 = cc in never z
 
-lifted-no : (l : Lifted) (n : ℕ) → risen.Refused n ≡ as_risen l → l ≡ no n
+lifted-no : (l : Lifted) (n : ℕ) → Err n ≡ as_risen l → l ≡ no n
 lifted-no (lifted fs) n e = let z : ◌≡◌ {A = ℕ} 0 1 = cc in never z
 lifted-no (no m) n e = let q : n ≡ m = cc in ap no (sym q)
 
 -- ---- `renamed`
 
 module _ (file : List ℕ) (t : Tables) (w : Within file t) (e : Entry) (row : Place) (frames : List ℕ) (count : ℕ)
-    (some : 0 < count) (out : List ℕ) (x : TextRead)
+    (some : 0 < count) (out : List ℕ) (x : Option Text)
     (X : x ≡ name_at file t.strings (frame_at 0 frames).name) where
   first : with_named file t e row (frames_from 0 count frames)
       ≡ with_named file t e row (frame_at 0 frames ∷ frames_from 1 (count - 1) frames)
@@ -104,13 +99,13 @@ module _ (file : List ℕ) (t : Tables) (w : Within file t) (e : Entry) (row : P
 
   -- the first frame's name doesn't read
   pub renamed-unread :
-      x ≡ text.Unread → (r : Answer) → r ≡ refusal 6 →
+      x ≡ None → (r : Answer) → r ≡ refusal 6 →
       Wrote (with_named file t e row (frames_from 0 count frames)) out out r
   unfolding with_named
   renamed-unread u r q =
       wrote-refused _ out r 6 (first ∙ rw (name-unread file t w (frame_at 0 frames).name (sym X ∙ u)) refl) q
 
-  module _ (name : Text) (N : x ≡ text.Is name) where
+  module _ (name : Text) (N : x ≡ Some name) where
     under : with_named file t e row (frames_from 0 count frames)
         ≡ with_later file t e name row (frames_from 1 (count - 1) frames)
     unfolding with_named
@@ -129,7 +124,7 @@ module _ (file : List ℕ) (t : Tables) (w : Within file t) (e : Entry) (row : P
         under ∙ ap (with_later file t e name row) (from-none 1 (count - 1) frames (omega arith)) in
         rw s (wrote_none _ out out r q refl refl refl)
 
-    module _ (not-one : count ≡ 1 → ⊥) (y : CallRead) (Y : y ≡ call_at file t (frame_at 1 frames)) where
+    module _ (not-one : count ≡ 1 → ⊥) (y : Result Frame ℕ) (Y : y ≡ call_at file t (frame_at 1 frames)) where
       onward : with_named file t e row (frames_from 0 count frames)
           ≡ after_first file t e name row (frames_from 2 (count - 2) frames) y
       unfolding with_later
@@ -142,13 +137,13 @@ module _ (file : List ℕ) (t : Tables) (w : Within file t) (e : Entry) (row : P
 
       -- its call site doesn't read
       pub renamed-refused :
-          (n : ℕ) → y ≡ call.Refused n → (r : Answer) → r ≡ refusal n →
+          (n : ℕ) → y ≡ Err n → (r : Answer) → r ≡ refusal n →
           Wrote (with_named file t e row (frames_from 0 count frames)) out out r
       renamed-refused n u r q =
           wrote-refused _ out r n
           (onward ∙ ap (after_first file t e name row (frames_from 2 (count - 2) frames)) u) q
 
-      module _ (g : Frame) (G : y ≡ call.Is g) (z : Risen) (exit : List ℕ)
+      module _ (g : Frame) (G : y ≡ Ok g) (z : Result (Unit {0}) ℕ) (exit : List ℕ)
           (R : Rises file t frames count g.name row out exit z) where
         risen-is : with_named file t e row (frames_from 0 count frames)
             ≡ after_lift e name g (lift_all file t frames count g.name row)
@@ -156,7 +151,7 @@ module _ (file : List ℕ) (t : Tables) (w : Within file t) (e : Entry) (row : P
 
         -- that of a frame behind it doesn't
         pub renamed-stopped :
-            (n : ℕ) → z ≡ risen.Refused n → (r : Answer) → r ≡ refusal n →
+            (n : ℕ) → z ≡ Err n → (r : Answer) → r ≡ refusal n →
             Wrote (with_named file t e row (frames_from 0 count frames)) out exit r
         renamed-stopped n u r q =
             let l = lifted-no (lift_all file t frames count g.name row) n (sym u ∙ R.says) in
@@ -166,7 +161,7 @@ module _ (file : List ℕ) (t : Tables) (w : Within file t) (e : Entry) (row : P
 
         -- all of them do
         pub renamed-all :
-            z ≡ risen.All → (p : Place) → p ≡ place_in g → (r : Answer) → r ≡ answer_with e name p (count - 1) →
+            z ≡ Ok tt → (p : Place) → p ≡ place_in g → (r : Answer) → r ≡ answer_with e name p (count - 1) →
             Wrote (with_named file t e row (frames_from 0 count frames)) out exit r
         renamed-all u p P r q =
             let fs = lifted_frames (lift_all file t frames count g.name row) in

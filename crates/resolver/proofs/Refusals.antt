@@ -1,6 +1,7 @@
 -- Each refusal is given exactly when its cause is met, the first in document 01's order, and it is its number, zeros
 -- and no records.
 -- Assumes nothing.
+use Rattle.std.proofs.Common.{Some, None, Ok, Err, Option, Result}
 use Prim.Native.Nat.{ℕ, ◌<◌}
 use mathlib.Core.Bool.{Bool, true, false}
 use mathlib.Core.List.{List, [], ◌∷◌}
@@ -11,12 +12,7 @@ use Rattle.types.specs.declared.Address.{Address}
 use Rattle.types.specs.declared.Options.{Options}
 use Rattle.types.specs.declared.InlineFrame.{InlineFrame}
 use Rattle.linetab.specs.declared.LineTableRow.{LineTableRow}
-use Rattle.linetab.specs.declared.RowFound.TheVariants as found
 use Rattle.parser.specs.declared.Tables.{Tables}
-use Rattle.parser.specs.declared.Opened.{Opened}
-use Rattle.parser.specs.declared.Opened.TheVariants as opened
-use Rattle.parser.specs.declared.Found.{Found}
-use Rattle.parser.specs.declared.Found.TheVariants as place
 use Rattle.parser.specs.Header.{opened_of}
 use Rattle.parser.specs.Search.{find_of, Nowhere}
 use Rattle.parser.specs.Entries.{symbol_at, covered_by}
@@ -36,7 +32,7 @@ use Rattle.resolver.proofs.Causes.{FirstUncalled, calls-uncalled, uncalled-calls
 
 -- what the items of an entry say at an address
 abbrev pub heard_of : Address → Data → Address → Options → ℕ → Heard
-heard_of symbol d addr o room = hear (ask symbol addr room o.inlining) d.items found.Nothing []
+heard_of symbol d addr o room = hear (ask symbol addr room o.inlining) d.items None []
 
 -- the entry covers the address, its name reads, and code info is asked for
 pub record Asked (b : Book) (symbol : Address) (d : Data) (addr : Address) (o : Options) : Type 0 where
@@ -51,24 +47,24 @@ pub data Unsaid (b : Book) (symbol : Address) (d : Data) (addr : Address) (o : O
       Unsaid b symbol d addr o room n
   unheard : Asked b symbol d addr o → heard_of symbol d addr o room ≡ fault n → Unsaid b symbol d addr o room n
   unplaced : (r : LineTableRow) (fs : List InlineFrame) → Asked b symbol d addr o →
-      heard_of symbol d addr o room ≡ known (found.Row r) fs → Unplaced b r.file_idx.0 n →
+      heard_of symbol d addr o room ≡ known (Some r) fs → Unplaced b r.file_idx.0 n →
       Unsaid b symbol d addr o room n
   first-unnamed : (r : LineTableRow) (f : InlineFrame) (fs : List InlineFrame) (s : Site) → Asked b symbol d addr o →
-      heard_of symbol d addr o room ≡ known (found.Row r) (f ∷ fs) →
+      heard_of symbol d addr o room ≡ known (Some r) (f ∷ fs) →
       site_of b r.file_idx.0 r.file_line.0 ≡ is s → reads_name b f.name.0 ≡ false → n ≡ 6 →
       Unsaid b symbol d addr o room n
   uncalled : (r : LineTableRow) (f : InlineFrame) (fs : List InlineFrame) (s : Site) → Asked b symbol d addr o →
-      heard_of symbol d addr o room ≡ known (found.Row r) (f ∷ fs) →
+      heard_of symbol d addr o room ≡ known (Some r) (f ∷ fs) →
       site_of b r.file_idx.0 r.file_line.0 ≡ is s → reads_name b f.name.0 ≡ true →
       FirstUncalled b fs n → Unsaid b symbol d addr o room n
 
 -- why a lookup is a refusal, in document 01's order
 pub data Met (file : List ℕ) (addr : Address) (o : Options) (room n : ℕ) : Type 0 where
-  unopened : opened_of file ≡ opened.Refused n → Met file addr o room n
-  nowhere : (t : Tables) → opened_of file ≡ opened.Is t → Nowhere file t addr → n ≡ 1 → Met file addr o room n
-  no-data : (t : Tables) (i : ℕ) → opened_of file ≡ opened.Is t → find_of file t addr ≡ place.At i →
+  unopened : opened_of file ≡ Err n → Met file addr o room n
+  nowhere : (t : Tables) → opened_of file ≡ Ok t → Nowhere file t addr → n ≡ 1 → Met file addr o room n
+  no-data : (t : Tables) (i : ℕ) → opened_of file ≡ Ok t → find_of file t addr ≡ Some i →
       data_of file t i ≡ unread → n ≡ 5 → Met file addr o room n
-  unsaid : (t : Tables) (i : ℕ) (d : Data) → opened_of file ≡ opened.Is t → find_of file t addr ≡ place.At i →
+  unsaid : (t : Tables) (i : ℕ) (d : Data) → opened_of file ≡ Ok t → find_of file t addr ≡ Some i →
       data_of file t i ≡ is d → Unsaid (book_of file t) (symbol_at file t i) d addr o room n → Met file addr o room n
 
 -- ---- what an entry says
@@ -88,7 +84,7 @@ module _ (b : Book) (symbol : Address) (d : Data) (addr : Address) (o : Options)
       rw (A.covered, A.named, A.code, h, p, m, c)
 
   module _ (A : Asked b symbol d addr o) where
-    frames-unsaid : (r : LineTableRow) (fs : List InlineFrame) → heard_of symbol d addr o room ≡ known (found.Row r) fs →
+    frames-unsaid : (r : LineTableRow) (fs : List InlineFrame) → heard_of symbol d addr o room ≡ known (Some r) fs →
         (k : SiteRead) → site_of b r.file_idx.0 r.file_line.0 ≡ k → with_frames b d fs k ≡ refuses n →
         Unsaid b symbol d addr o room n
     unfolding with_frames
@@ -110,8 +106,8 @@ module _ (b : Book) (symbol : Address) (d : Data) (addr : Address) (o : Options)
         Unsaid b symbol d addr o room n
     unfolding after_heard
     heard-unsaid (fault m) h e = let q : m ≡ n = cc in unheard A (h ∙ ap fault q)
-    heard-unsaid (known found.Nothing fs) h e = never (let z : ◌≡◌ {A = ℕ} 0 1 = cc in z)
-    heard-unsaid (known (found.Row r) fs) h e =
+    heard-unsaid (known None fs) h e = never (let z : ◌≡◌ {A = ℕ} 0 1 = cc in z)
+    heard-unsaid (known (Some r) fs) h e =
         frames-unsaid r fs h (site_of b r.file_idx.0 r.file_line.0) refl e
 
   more-unsaid : covered_by addr symbol d.size ≡ true → reads_name b d.name ≡ true → (t : Bool) →
@@ -154,8 +150,8 @@ module _ (file : List ℕ) (addr : Address) (o : Options) (room n : ℕ) where
       let s = unsaid-say (book_of file t) (symbol_at file t i) d addr o room n u in
       rw (e, f, k, s)
 
-  module _ (t : Tables) (e : opened_of file ≡ opened.Is t) (l : 0 < n) where
-    data-met : (i : ℕ) → find_of file t addr ≡ place.At i → (k : DataRead) → data_of file t i ≡ k →
+  module _ (t : Tables) (e : opened_of file ≡ Ok t) (l : 0 < n) where
+    data-met : (i : ℕ) → find_of file t addr ≡ Some i → (k : DataRead) → data_of file t i ≡ k →
         (answer_of file t (symbol_at file t i) addr o room k).answer.number ≡ n → Met file addr o room n
     unfolding answer_of
     data-met i f (is d) k p =
@@ -165,20 +161,20 @@ module _ (file : List ℕ) (addr : Address) (o : Options) (room n : ℕ) where
         unsaid t i d e f k (say-unsaid b (symbol_at file t i) d addr o room n r)
     data-met i f unread k p = no-data t i e f k (sym p)
 
-    found-met : (k : Found) → find_of file t addr ≡ k → (after_found file t addr o room k).answer.number ≡ n →
+    found-met : (k : Option ℕ) → find_of file t addr ≡ k → (after_found file t addr o room k).answer.number ≡ n →
         Met file addr o room n
     unfolding after_found answer_at
-    found-met (place.At i) f p = data-met i f (data_of file t i) refl p
-    found-met place.Unknown f p = nowhere t e (find-unknown file t addr (tables-within file t e) f) (sym p)
+    found-met (Some i) f p = data-met i f (data_of file t i) refl p
+    found-met None f p = nowhere t e (find-unknown file t addr (tables-within file t e) f) (sym p)
 
   pub lookup-met : (lookup_of file addr o room).answer.number ≡ n → 0 < n → Met file addr o room n
   unfolding lookup_of after_opened
   lookup-met p l = go (opened_of file) refl p
     where
-      go : (k : Opened) → opened_of file ≡ k → (after_opened file addr o room k).answer.number ≡ n →
+      go : (k : Result Tables ℕ) → opened_of file ≡ k → (after_opened file addr o room k).answer.number ≡ n →
           Met file addr o room n
-      go (opened.Is t) e q = found-met t e l (find_of file t addr) refl q
-      go (opened.Refused m) e q = unopened (e ∙ ap opened.Refused q)
+      go (Ok t) e q = found-met t e l (find_of file t addr) refl q
+      go (Err m) e q = unopened (e ∙ ap Err q)
 
   -- a number other than 0 comes with zeros and no records
   pub refusal-zero : (lookup_of file addr o room).answer.number ≡ n → 0 < n → lookup_of file addr o room ≡ refusing n

@@ -1,6 +1,7 @@
 -- The count is the number of records, and records are fewer than the room, which counts the block's first frame as
 -- well; without inlining or code info there are none.
 -- Assumes nothing.
+use Rattle.std.proofs.Common.{Some, None}
 use Prim.Native.Nat.{ℕ, suc, ◌+◌, ◌*◌, ◌≤◌}
 use mathlib.Core.Bool.{Bool, true, false}
 use mathlib.Core.List.{List, [], ◌∷◌, map}
@@ -12,7 +13,6 @@ use Rattle.types.specs.declared.Address.{Address}
 use Rattle.types.specs.declared.Options.{Options}
 use Rattle.reads.specs.Pick.{pick}
 use Rattle.types.specs.declared.InlineFrame.{InlineFrame}
-use Rattle.linetab.specs.declared.RowFound.TheVariants as found
 use Rattle.inline.proofs.Numbers.{never}
 use Rattle.inline.proofs.Answers.{block_room}
 use Rattle.resolver.specs.Data.{Data}
@@ -62,7 +62,7 @@ module _ (b : Book) (symbol : Address) (d : Data) (addr : Address) (o : Options)
   saying-room (no_frames r s A h k u v w) = inl (ap length w)
   saying-room (with-frames r f fs s ds A h k n c u v w) =
       let q = ask symbol addr room o.inlining in
-      let D = heard-frames q d.items found.Nothing (found.Row r) f fs h in
+      let D = heard-frames q d.items None (Some r) f fs h in
       let l = block_room symbol.0 addr.0 room D.this.bytes (f ∷ fs) D.gives in
       let m : length cs ≡ length fs = ap length w ∙ length-raised s ds ∙ length-calls b fs ds c in
       inr (omega arith)
@@ -80,7 +80,7 @@ module _ (b : Book) (symbol : Address) (d : Data) (addr : Address) (o : Options)
   saying-off z (no_frames r s A h k u v w) = w
   saying-off z (with-frames r f fs s ds A h k n c u v w) =
       let q = ask symbol addr room o.inlining in
-      let x = (heard-parts q d.items found.Nothing [] (found.Row r) (f ∷ fs) h).1 in
+      let x = (heard-parts q d.items None [] (Some r) (f ∷ fs) h).1 in
       let y = frames-off q z d.items [] in
       never (let z : ◌≡◌ {A = ℕ} 0 1 = cc in z)
 

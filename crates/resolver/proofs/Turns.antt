@@ -1,6 +1,7 @@
 -- The loop of `code_in`, a turn for each kind of item: what the items say from the start is what those ahead say after
 -- the row and the frames known so far.
 -- Assumes nothing.
+use Rattle.std.proofs.Common.{None, Ok, Err, Option, Result}
 use Prim.Native.Nat.{ℕ, ◌+◌, ◌-◌, ◌*◌, ◌/◌, ◌<◌, ◌≤◌, min}
 use mathlib.Core.Bool.{true}
 use mathlib.Core.List.{List, [], ◌∷◌}
@@ -9,8 +10,6 @@ use lib.ListN.{length, take, drop}
 use native.Mathlib.Omega.{arith}
 use Rattle.types.specs.declared.Address.{Address}
 use Rattle.types.specs.declared.InlineFrame.{InlineFrame}
-use Rattle.linetab.specs.declared.RowFound.{RowFound}
-use Rattle.linetab.specs.declared.RowFound.TheVariants as found
 use Rattle.inline.specs.Block.{block_of, frames_of, room_of, Lists}
 use Rattle.inline.specs.Store.{flat}
 use Rattle.inline.specs.declared.Listed.{Listed}
@@ -19,9 +18,6 @@ use Rattle.parser.specs.declared.Item.{Item}
 use Rattle.parser.specs.declared.Item.TheVariants as item
 use Rattle.parser.specs.Items.{item_at}
 use Rattle.parser.proofs.Steps.{item-ahead, item-next}
-use Rattle.resolver.specs.declared.items.LineHeard.{LineHeard}
-use Rattle.resolver.specs.declared.items.LineHeard.TheVariants as heard
-use Rattle.resolver.specs.declared.items.CodeRead.TheVariants as code
 use Rattle.resolver.specs.Data.{Piece, piece, items_at}
 use Rattle.resolver.specs.Heard.{Ask, ask, known, fault, after_block, hear}
 use Rattle.resolver.specs.Stages.{line_heard}
@@ -29,20 +25,21 @@ use Rattle.resolver.specs.Rows.{frames_from, as_code, heard_frames, heard_in, He
 use Rattle.resolver.proofs.Pieces.{items-is, items-closed, items-torn}
 use Rattle.resolver.proofs.Frames.{from-length, from-none, from_front, from-flat}
 use Rattle.resolver.proofs.Hearing.{after_row, hear-line, hear-other, hear-more, hear-block}
+use Rattle.linetab.specs.declared.LineTableRow.{LineTableRow}
 
 module _ (symbol addr : Address) (file : List ℕ) (items : ℕ) (entry : List ℕ) where
   abbrev asked : Ask
   asked = ask symbol addr (min 64 (length entry / 3)) true
 
   -- what is known before an item
-  pub record Sofar (store : List ℕ) (row : RowFound) (count at : ℕ) : Type 0 where
+  pub record Sofar (store : List ℕ) (row : Option LineTableRow) (count at : ℕ) : Type 0 where
     pub kept : length store ≡ length entry
     pub within : 3 * count ≤ length store
     pub same :
         heard_in symbol addr (min 64 (length entry / 3)) (items_at file items).list
         ≡ hear (ask symbol addr (min 64 (length entry / 3)) true) (items_at file at).list row (frames_from 0 count store)
 
-  pub sofar-start : Sofar entry found.Nothing 0 items
+  pub sofar-start : Sofar entry None 0 items
   unfolding frames_from
   sofar-start = record { kept = refl; within = omega arith; same = refl }
 
@@ -50,15 +47,15 @@ module _ (symbol addr : Address) (file : List ℕ) (items : ℕ) (entry : List �
   refuses :
       (exit : List ℕ) (n : ℕ) → length exit ≡ length entry →
       heard_in symbol addr (min 64 (length entry / 3)) (items_at file items).list ≡ fault n →
-      Hears symbol addr (items_at file items).list entry exit (code.Refused n)
+      Hears symbol addr (items_at file items).list entry exit (Err n)
   unfolding as_code heard_frames flat
   refuses exit n k e = record { says = rw e refl; frames = rw e refl; kept = k }
 
-  module _ (store : List ℕ) (row : RowFound) (count at : ℕ) (S : Sofar store row count at) where
+  module _ (store : List ℕ) (row : Option LineTableRow) (count at : ℕ) (S : Sofar store row count at) where
     -- the list's end
     ends :
         (items_at file at).list ≡ [] →
-        Hears symbol addr (items_at file items).list entry store (code.Known row count)
+        Hears symbol addr (items_at file items).list entry store (Ok (row, count))
     unfolding as_code heard_frames hear
     ends e =
         let s : heard_in symbol addr (min 64 (length entry / 3)) (items_at file items).list
@@ -70,14 +67,13 @@ module _ (symbol addr : Address) (file : List ℕ) (items : ℕ) (entry : List �
           kept = S.kept;
         }
 
-    module _ (x : Item) (X : x ≡ item_at file at) where
-      pub hears-closed :
-          x ≡ item.Closed → Hears symbol addr (items_at file items).list entry store (code.Known row count)
-      hears-closed e = ends (items-closed file at (sym X ∙ e))
-
-      pub hears-torn :
-          x ≡ item.Torn → Hears symbol addr (items_at file items).list entry store (code.Known row count)
-      hears-torn e = ends (items-torn file at (sym X ∙ e))
+    -- the list ends at what is no item
+    pub hears-ended :
+        (x : Item) → x ≡ item_at file at → ((kind place len next : ℕ) → x ≡ item.Is kind place len next → ⊥) →
+        Hears symbol addr (items_at file items).list entry store (Ok (row, count))
+    hears-ended (item.Is kind place len next) X n = absurd (n kind place len next refl)
+    hears-ended item.Closed X n = ends (items-closed file at (sym X))
+    hears-ended item.Torn X n = ends (items-torn file at (sym X))
 
     module _ (x : Item) (X : x ≡ item_at file at) (kind place len next : ℕ) (I : x ≡ item.Is kind place len next) where
       onward : heard_in symbol addr (min 64 (length entry / 3)) (items_at file items).list
@@ -93,7 +89,7 @@ module _ (symbol addr : Address) (file : List ℕ) (items : ℕ) (entry : List �
       part-is = omega arith
 
       -- a line block
-      module _ (is-line : kind ≡ 1) (r : LineHeard)
+      module _ (is-line : kind ≡ 1) (r : Result (Option LineTableRow) ℕ)
           (L : r ≡ line_heard (take (place + len - place) (drop place file)) symbol addr row) where
         after-line : heard_in symbol addr (min 64 (length entry / 3)) (items_at file items).list
             ≡ after_row (λ s. hear asked (items_at file next).list s (frames_from 0 count store)) r
@@ -104,7 +100,7 @@ module _ (symbol addr : Address) (file : List ℕ) (items : ℕ) (entry : List �
             ∙ ap (after_row (λ s. hear asked (items_at file next).list s (frames_from 0 count store)))
             (sym (L ∙ ap (λ (n : ℕ). line_heard (take n (drop place file)) symbol addr row) part-is))
 
-        pub sofar-line : (after : RowFound) → r ≡ heard.Is after → Sofar store after count next
+        pub sofar-line : (after : Option LineTableRow) → r ≡ Ok after → Sofar store after count next
         sofar-line after e = record {
           kept = S.kept;
           within = S.within;
@@ -114,9 +110,9 @@ module _ (symbol addr : Address) (file : List ℕ) (items : ℕ) (entry : List �
         }
 
         pub hears-unread :
-            r ≡ heard.Unread → Hears symbol addr (items_at file items).list entry store (code.Refused 9)
-        hears-unread e =
-            refuses store 9 S.kept
+            (n : ℕ) → r ≡ Err n → Hears symbol addr (items_at file items).list entry store (Err n)
+        hears-unread n e =
+            refuses store n S.kept
             (after-line
             ∙ ap (after_row (λ s. hear asked (items_at file next).list s (frames_from 0 count store))) e)
 
@@ -157,7 +153,7 @@ module _ (symbol addr : Address) (file : List ℕ) (items : ℕ) (entry : List �
             }
 
         pub hears-fault :
-            (r.number ≡ 0 → ⊥) → Hears symbol addr (items_at file items).list entry exit (code.Refused r.number)
+            (r.number ≡ 0 → ⊥) → Hears symbol addr (items_at file items).list entry exit (Err r.number)
         hears-fault z =
             refuses exit r.number (L.kept ∙ S.kept)
             (after-block

@@ -1,5 +1,6 @@
 -- The whole lookup with frames from its stages: each way out of `with_frames` and of `lookup_frames`.
 -- Assumes nothing.
+use Rattle.std.proofs.Common.{Some, None, Ok, Err, Option, Result}
 use Prim.Native.Nat.{ℕ, ◌*◌, ◌/◌, ◌≤◌, min}
 use mathlib.Core.Bool.{true}
 use mathlib.Core.List.{List, []}
@@ -10,19 +11,11 @@ use Rattle.types.specs.declared.Address.{Address}
 use Rattle.types.specs.declared.Answer.{Answer}
 use Rattle.types.specs.Refusal.{refusal}
 use Rattle.linetab.specs.declared.LineTableRow.{LineTableRow}
-use Rattle.linetab.specs.declared.RowFound.{RowFound}
-use Rattle.linetab.specs.declared.RowFound.TheVariants as found
 use Rattle.inline.specs.Store.{flat}
 use Rattle.inline.proofs.Answers.{flat-length}
 use Rattle.parser.specs.declared.Tables.{Tables}
 use Rattle.resolver.specs.declared.Entry.{Entry}
 use Rattle.resolver.specs.declared.Place.{Place}
-use Rattle.resolver.specs.declared.sites.PlaceRead.{PlaceRead}
-use Rattle.resolver.specs.declared.sites.PlaceRead.TheVariants as placed
-use Rattle.resolver.specs.declared.items.CodeRead.{CodeRead}
-use Rattle.resolver.specs.declared.items.CodeRead.TheVariants as code
-use Rattle.resolver.specs.declared.landing.Landing.{Landing}
-use Rattle.resolver.specs.declared.landing.Landing.TheVariants as land
 use Rattle.resolver.specs.Data.{Piece, items_at}
 use Rattle.resolver.specs.Heard.{ask, Heard, known, fault}
 use Rattle.resolver.specs.Lookup.{lookup_of}
@@ -50,23 +43,25 @@ use Rattle.resolver.proofs.Framed.{framed}
 
 -- ---- what `code_in` answers
 
-code-fault : (h : Heard) (n : ℕ) → code.Refused n ≡ as_code h → h ≡ fault n
+code-fault : (h : Heard) (n : ℕ) → Err n ≡ as_code h → h ≡ fault n
 unfolding as_code
 code-fault (known r fs) n e = let z : ◌≡◌ {A = ℕ} 0 1 = cc in never z
 code-fault (fault m) n e = let q : n ≡ m = cc in ap fault (sym q)
 
-code_row : (h : Heard) (r : RowFound) (count : ℕ) → code.Known r count ≡ as_code h → h ≡ known r (heard_frames h)
+code_row : (h : Heard) (r : Option LineTableRow) (count : ℕ) → Ok (r, count) ≡ as_code h → h ≡ known r (heard_frames h)
 unfolding as_code heard_frames
-code_row (known s fs) r count e = let q : r ≡ s = cc in ap (λ (x : RowFound). known x fs) (sym q)
+code_row (known s fs) r count e =
+    let p : ◌≡◌ {A = Option LineTableRow × ℕ} (r, count) (s, length fs) = cc in let q : r ≡ s = ap (λ (x, n). x) p in ap (λ (x : Option LineTableRow). known x fs) (sym q)
 code_row (fault m) r count e = let z : ◌≡◌ {A = ℕ} 0 1 = cc in never z
 
-code-count : (h : Heard) (r : RowFound) (count : ℕ) → code.Known r count ≡ as_code h → length (heard_frames h) ≡ count
+code-count : (h : Heard) (r : Option LineTableRow) (count : ℕ) → Ok (r, count) ≡ as_code h → length (heard_frames h) ≡ count
 unfolding as_code heard_frames
-code-count (known s fs) r count e = let q : count ≡ length fs = cc in sym q
+code-count (known s fs) r count e =
+    let p : ◌≡◌ {A = Option LineTableRow × ℕ} (r, count) (s, length fs) = cc in sym (ap (λ (x, n). n) p)
 code-count (fault m) r count e = let z : ◌≡◌ {A = ℕ} 0 1 = cc in never z
 
-module _ (symbol addr : Address) (ps : List Piece) (frames after : List ℕ) (x : CodeRead)
-    (H : Hears symbol addr ps frames after x) (row : RowFound) (count : ℕ) (K : x ≡ code.Known row count) where
+module _ (symbol addr : Address) (ps : List Piece) (frames after : List ℕ) (x : Result (Option LineTableRow × ℕ) ℕ)
+    (H : Hears symbol addr ps frames after x) (row : Option LineTableRow) (count : ℕ) (K : x ≡ Ok (row, count)) where
   abbrev told : Heard
   told = heard_in symbol addr (min 64 (length frames / 3)) ps
 
@@ -77,7 +72,7 @@ module _ (symbol addr : Address) (ps : List Piece) (frames after : List ℕ) (x 
   many = code-count told row count (sym K ∙ H.says)
 
   front : take (3 * count) after ≡ flat (heard_frames told)
-  front = subst (λ (y : CodeRead). take (takes y) after ≡ flat (heard_frames told)) K H.frames
+  front = subst (λ (y : Result (Option LineTableRow × ℕ) ℕ). take (takes y) after ≡ flat (heard_frames told)) K H.frames
 
   -- the frames lie within the list, and there is room for their records
   pub count-in : 3 * count ≤ length after
@@ -85,13 +80,13 @@ module _ (symbol addr : Address) (ps : List Piece) (frames after : List ℕ) (x 
 
   pub count_room : count ≤ min 64 (length frames / 3)
   count_room =
-      let h = heard-room (ask symbol addr (min 64 (length frames / 3)) true) ps found.Nothing row (heard_frames told)
+      let h = heard-room (ask symbol addr (min 64 (length frames / 3)) true) ps None row (heard_frames told)
       heard in
       omega (arith, h, many)
 
 -- ---- `with_frames`
 
-module _ (file : List ℕ) (t : Tables) (e : Entry) (addr : Address) (frames after out : List ℕ) (x : CodeRead)
+module _ (file : List ℕ) (t : Tables) (e : Entry) (addr : Address) (frames after out : List ℕ) (x : Result (Option LineTableRow × ℕ) ℕ)
     (H : Hears e.symbol addr (items_at file e.items).list frames after x) where
   abbrev room : ℕ
   room = min 64 (length frames / 3)
@@ -101,39 +96,39 @@ module _ (file : List ℕ) (t : Tables) (e : Entry) (addr : Address) (frames aft
 
   -- the first fault of the items
   pub framed-fault :
-      (n : ℕ) → x ≡ code.Refused n → (r : Answer) → r ≡ refusal n → Wrote (frame_rest file t e addr room) out out r
+      (n : ℕ) → x ≡ Err n → (r : Answer) → r ≡ refusal n → Wrote (frame_rest file t e addr room) out out r
   unfolding frame_rest with_heard
   framed-fault n u r q =
       wrote-refused _ out r n (ap (with_heard file t e) (code-fault said n (sym u ∙ H.says))) q
 
-  module _ (row : RowFound) (count : ℕ) (K : x ≡ code.Known row count) where
+  module _ (row : Option LineTableRow) (count : ℕ) (K : x ≡ Ok (row, count)) where
     known_is : said ≡ known row (heard_frames said)
     known_is = heard e.symbol addr (items_at file e.items).list frames after x H row count K
 
     -- no row
     pub framed-none :
-        row ≡ found.Nothing → (r : Answer) → r ≡ plain_answer e → Wrote (frame_rest file t e addr room) out out r
+        row ≡ None → (r : Answer) → r ≡ plain_answer e → Wrote (frame_rest file t e addr room) out out r
     unfolding frame_rest with_heard
     framed-none u r q =
         let s : with_heard file t e said ≡ record { answer = plain_answer e; frames = [] } =
-        ap (with_heard file t e) (known_is ∙ ap (λ (y : RowFound). known y (heard_frames said)) u) in
+        ap (with_heard file t e) (known_is ∙ ap (λ (y : Option LineTableRow). known y (heard_frames said)) u) in
         rw s (wrote_none _ out out r q refl refl refl)
 
-    module _ (l : LineTableRow) (L : row ≡ found.Row l) (y : PlaceRead)
+    module _ (l : LineTableRow) (L : row ≡ Some l) (y : Result Place ℕ)
         (Y : y ≡ place_at file t l.file_idx.0 l.file_line.0) where
       rest : frame_rest file t e addr room ≡ with_place file t e (heard_frames said) y
       unfolding frame_rest with_heard
       rest =
-          ap (with_heard file t e) (known_is ∙ ap (λ (y : RowFound). known y (heard_frames said)) L)
+          ap (with_heard file t e) (known_is ∙ ap (λ (y : Option LineTableRow). known y (heard_frames said)) L)
           ∙ ap (with_place file t e (heard_frames said)) (sym Y)
 
       -- its position doesn't read
       pub framed-refused :
-          (n : ℕ) → y ≡ placed.Refused n → (r : Answer) → r ≡ refusal n → Wrote (frame_rest file t e addr room) out out r
+          (n : ℕ) → y ≡ Err n → (r : Answer) → r ≡ refusal n → Wrote (frame_rest file t e addr room) out out r
       framed-refused n u r q =
           wrote-refused _ out r n (rest ∙ ap (with_place file t e (heard_frames said)) u) q
 
-      module _ (p : Place) (P : y ≡ placed.Is p) where
+      module _ (p : Place) (P : y ≡ Ok p) where
         onward : frame_rest file t e addr room ≡ with_named file t e p (frames_from 0 count after)
         onward =
             rest ∙ ap (with_place file t e (heard_frames said)) P
@@ -171,8 +166,8 @@ module _ (len : ℕ) (space : List ℕ) (n : ℕ) (N : n ≡ 3 * min 64 (len / 7
 
 module _ (store space : List ℕ) (n : ℕ) (N : n ≡ 3 * min 64 (length store / 7)) (full : 192 ≡ length space) where
   pub looked-on :
-      (file : List ℕ) (addr : Address) (x : Landing) → x ≡ landing_of file addr → (t : Tables) (e : Entry) →
-      x ≡ land.On t e → (exit : List ℕ) (r : Answer) →
+      (file : List ℕ) (addr : Address) (x : Result (Tables × Entry) ℕ) → x ≡ landing_of file addr → (t : Tables) (e : Entry) →
+      x ≡ Ok (t, e) → (exit : List ℕ) (r : Answer) →
       Wrote (frame_rest file t e addr (min 64 (length (take n space) / 3))) store exit r →
       Wrote (lookup_of file addr all_options (records_in store)) store exit r
   looked-on file addr x X t e u exit r w =
@@ -183,8 +178,8 @@ module _ (store space : List ℕ) (n : ℕ) (N : n ≡ 3 * min 64 (length store 
       rw (← s) w
 
 pub looked-refused :
-    (file : List ℕ) (addr : Address) (store : List ℕ) (x : Landing) → x ≡ landing_of file addr → (n : ℕ) →
-    x ≡ land.Refused n → (r : Answer) → r ≡ refusal n →
+    (file : List ℕ) (addr : Address) (store : List ℕ) (x : Result (Tables × Entry) ℕ) → x ≡ landing_of file addr → (n : ℕ) →
+    x ≡ Err n → (r : Answer) → r ≡ refusal n →
     Wrote (lookup_of file addr all_options (records_in store)) store store r
 looked-refused file addr store x X n u r q =
     wrote-refused _ store r n (not-landed file addr n (sym X ∙ u) all_options (records_in store)) q

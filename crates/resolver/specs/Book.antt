@@ -1,14 +1,10 @@
 -- What all entries share, as a value without places: the string table's bytes, and directory and name of each file
 -- (document 01, "Header and tables").
 -- Assumes nothing.
-use Rattle.std.specs.Prelude.{ℕ, zero, suc, Bool, true, false, List, [], ◌∷◌, take, drop}
-use Rattle.strtab.specs.declared.Len.{Len}
-use Rattle.strtab.specs.declared.Len.TheVariants.{Spans, Nothing}
+use Rattle.std.specs.Prelude.{ℕ, zero, suc, Bool, true, false, List, [], ◌∷◌, take, drop, Some, None, Option}
 use Rattle.strtab.specs.Strings.{text_in, name_in}
 use Rattle.parser.specs.declared.Tables.{Tables}
 use Rattle.parser.specs.declared.FileInfo.{FileInfo}
-use Rattle.parser.specs.declared.FileRead.{FileRead}
-use Rattle.parser.specs.declared.FileRead.TheVariants as row
 use Rattle.parser.specs.Numbers.{num_at}
 
 pub record Book : Type 0 where
@@ -31,15 +27,15 @@ book_of file t = record {
 }
 
 -- the row at an index below the file count
-unfoldable pub nth_file : List FileInfo → ℕ → FileRead
-nth_file [] i = row.Unread
-nth_file (r ∷ rs) zero = row.Is r
+unfoldable pub nth_file : List FileInfo → ℕ → Option FileInfo
+nth_file [] i = None
+nth_file (r ∷ rs) zero = Some r
 nth_file (r ∷ rs) (suc i) = nth_file rs i
 
 -- whether a string reads, and whether a name does
-abbrev pub there : Len → Bool
-there (Spans n) = true
-there Nothing = false
+abbrev pub there : Option ℕ → Bool
+there (Some n) = true
+there None = false
 
 unfoldable pub reads_text : Book → ℕ → Bool
 reads_text b offset = there (text_in b.strings offset)

@@ -5,14 +5,13 @@
 --   items                each a type, a length and that many bytes, up to type 0 or to one that doesn't fit
 --
 -- Assumes nothing.
-use Rattle.std.specs.Prelude.{ℕ, zero, suc, ◌-◌, Bool, true, false, List, [], ◌∷◌, length, take, drop}
+use Rattle.std.specs.Prelude.{ℕ, zero, suc, ◌-◌, Bool, true, false, List, [], ◌∷◌, length, take, drop, Some, None, Option}
 use Rattle.parser.specs.declared.Tables.{Tables}
-use Rattle.parser.specs.declared.InfoRead.{InfoRead}
-use Rattle.parser.specs.declared.InfoRead.TheVariants as info
 use Rattle.parser.specs.declared.Item.{Item}
 use Rattle.parser.specs.declared.Item.TheVariants as item
 use Rattle.parser.specs.Entries.{info_in, info_at}
 use Rattle.parser.specs.Items.{item_at}
+use Rattle.parser.specs.declared.AddrInfo.{AddrInfo}
 
 -- an item of the address data list
 pub record Piece : Type 0 where
@@ -58,14 +57,14 @@ unfoldable pub items_at : List ℕ → ℕ → Pieces
 items_at file at = items_within (suc (length file - at)) file at
 
 -- by what is read for size and name
-abbrev pub as_data : List ℕ → InfoRead → DataRead
-as_data file (info.Is a) = is (record {
+abbrev pub as_data : List ℕ → Option AddrInfo → DataRead
+as_data file (Some a) = is (record {
   size = a.size;
   name = a.name.0;
   items = (items_at file a.items).list;
   closed = (items_at file a.items).closed;
 })
-as_data file info.Unread = unread
+as_data file None = unread
 
 -- what stands at a place
 unfoldable pub data_at : List ℕ → ℕ → DataRead

@@ -1,17 +1,15 @@
 -- What the items of an entry say at an address: a row and frames, or the first fault in list order (document 01,
 -- "Address data list"). What reads a row never looks at frames, and the other way round.
 -- Assumes nothing.
-use Rattle.std.specs.Prelude.{ℕ, Bool, List, [], ◌∷◌, eqb}
+use Rattle.std.specs.Prelude.{ℕ, Bool, List, [], ◌∷◌, eqb, Some, None, Ok, Err, Option, Result}
 use Rattle.reads.specs.Pick.{pick}
 use Rattle.types.specs.declared.Address.{Address}
 use Rattle.types.specs.declared.InlineFrame.{InlineFrame}
-use Rattle.linetab.specs.declared.RowFound.{RowFound}
-use Rattle.linetab.specs.declared.RowFound.TheVariants as found
-use Rattle.linetab.specs.declared.LineRead.{LineRead}
-use Rattle.linetab.specs.declared.LineRead.TheVariants as line
 use Rattle.linetab.specs.Rows.{line_row}
 use Rattle.inline.specs.Block.{Block, listed, refused, block_of}
 use Rattle.resolver.specs.Data.{Piece}
+use Rattle.linetab.specs.declared.LineTableRow.{LineTableRow}
+use Rattle.leb128.specs.declared.Cause.{Cause}
 
 -- what is asked of the items: the symbol's address, the wanted one, room for so many frames, and whether frames are
 -- wanted
@@ -26,24 +24,22 @@ ask symbol addr room inlining = record { symbol = symbol; addr = addr; room = ro
 
 -- the row and the frames known so far, or a refusal's number
 pub data Heard : Type 0 where
-  known : RowFound → List InlineFrame → Heard
+  known : Option LineTableRow → List InlineFrame → Heard
   fault : ℕ → Heard
 
 -- a line block's row, none, or that its header doesn't read, whatever the cause
 abbrev pub header_no : ℕ
 header_no = 9
 
-abbrev pub after_line : (RowFound → Heard) → LineRead → Heard
-after_line go (line.Row r) = go (found.Row r)
-after_line go line.Nothing = go found.Nothing
-after_line go line.Short = fault header_no
-after_line go line.Wide = fault header_no
+abbrev pub after_line : (Option LineTableRow → Heard) → Result (Option LineTableRow) Cause → Heard
+after_line go (Ok row) = go row
+after_line go (Err cause) = fault header_no
 
 -- type 1 is read while no row is known
-unfoldable pub hear_row : Ask → Piece → (RowFound → Heard) → RowFound → Heard
-hear_row q p go (found.Row r) = go (found.Row r)
-hear_row q p go found.Nothing =
-    pick (eqb p.kind 1) (after_line go (line_row p.bytes q.symbol q.addr)) (go found.Nothing)
+unfoldable pub hear_row : Ask → Piece → (Option LineTableRow → Heard) → Option LineTableRow → Heard
+hear_row q p go (Some r) = go (Some r)
+hear_row q p go None =
+    pick (eqb p.kind 1) (after_line go (line_row p.bytes q.symbol q.addr)) (go None)
 
 abbrev pub after_block : (List InlineFrame → Heard) → Block → Heard
 after_block go (listed fs) = go fs
@@ -58,6 +54,6 @@ hear_frames q p go [] =
     (go [])
 
 -- the items in list order, after a row and frames known so far
-unfoldable pub hear : Ask → List Piece → RowFound → List InlineFrame → Heard
+unfoldable pub hear : Ask → List Piece → Option LineTableRow → List InlineFrame → Heard
 hear q [] r fs = known r fs
 hear q (p ∷ ps) r fs = hear_row q p (λ r. hear_frames q p (λ fs. hear q ps r fs) fs) r

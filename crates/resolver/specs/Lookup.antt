@@ -1,13 +1,9 @@
 -- A whole lookup (document 01, in its order): the tables (2, 3, 4), the entry (1), and what the entry says.
 -- Assumes nothing.
-use Rattle.std.specs.Prelude.{ℕ, List}
+use Rattle.std.specs.Prelude.{ℕ, List, Some, None, Ok, Err, Option, Result}
 use Rattle.types.specs.declared.Address.{Address}
 use Rattle.types.specs.declared.Options.{Options}
 use Rattle.parser.specs.declared.Tables.{Tables}
-use Rattle.parser.specs.declared.Opened.{Opened}
-use Rattle.parser.specs.declared.Opened.TheVariants as opened
-use Rattle.parser.specs.declared.Found.{Found}
-use Rattle.parser.specs.declared.Found.TheVariants as found
 use Rattle.parser.specs.Header.{opened_of}
 use Rattle.parser.specs.Search.{find_of}
 use Rattle.parser.specs.Entries.{symbol_at}
@@ -26,13 +22,13 @@ answer_of file t symbol addr o room unread = refusing 5
 unfoldable pub answer_at : List ℕ → Tables → ℕ → Address → Options → ℕ → Looked
 answer_at file t i addr o room = answer_of file t (symbol_at file t i) addr o room (data_of file t i)
 
-unfoldable pub after_found : List ℕ → Tables → Address → Options → ℕ → Found → Looked
-after_found file t addr o room (found.At i) = answer_at file t i addr o room
-after_found file t addr o room found.Unknown = refusing 1
+unfoldable pub after_found : List ℕ → Tables → Address → Options → ℕ → Option ℕ → Looked
+after_found file t addr o room (Some i) = answer_at file t i addr o room
+after_found file t addr o room None = refusing 1
 
-unfoldable pub after_opened : List ℕ → Address → Options → ℕ → Opened → Looked
-after_opened file addr o room (opened.Is t) = after_found file t addr o room (find_of file t addr)
-after_opened file addr o room (opened.Refused n) = refusing n
+unfoldable pub after_opened : List ℕ → Address → Options → ℕ → Result Tables ℕ → Looked
+after_opened file addr o room (Ok t) = after_found file t addr o room (find_of file t addr)
+after_opened file addr o room (Err n) = refusing n
 
 -- the answer of a file at an address, with options, and room for the frames of a block
 unfoldable pub lookup_of : List ℕ → Address → Options → (room : ℕ) → Looked

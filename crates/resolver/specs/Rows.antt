@@ -1,6 +1,6 @@
 -- The records of a lookup in a list of numbers, and what the stages that write them are held to.
 -- Assumes nothing.
-use Rattle.std.specs.Prelude.{ℕ, zero, suc, ◌+◌, ◌-◌, ◌*◌, ◌/◌, min, true, false, List, [], ◌∷◌, ◌++◌, ◌⊎◌, ◌≡◌, length, take}
+use Rattle.std.specs.Prelude.{ℕ, zero, suc, ◌+◌, ◌-◌, ◌*◌, ◌/◌, min, true, false, List, [], ◌∷◌, ◌++◌, ◌⊎◌, ◌≡◌, length, take, Some, None, Ok, Err, Option, Result}
 use Rattle.reads.specs.Pick.{pick}
 use Rattle.types.specs.declared.Address.{Address}
 use Rattle.types.specs.declared.Options.{Options}
@@ -9,24 +9,16 @@ use Rattle.types.specs.declared.Answer.{Answer}
 use Rattle.types.specs.declared.Frame.{Frame}
 use Rattle.types.specs.declared.InlineFrame.{InlineFrame}
 use Rattle.inline.specs.Store.{flat, frame_at}
-use Rattle.linetab.specs.declared.RowFound.TheVariants as found
 use Rattle.parser.specs.declared.Tables.{Tables}
 use Rattle.resolver.specs.declared.Entry.{Entry}
 use Rattle.resolver.specs.declared.Place.{Place}
-use Rattle.resolver.specs.declared.sites.PlaceRead.{PlaceRead}
-use Rattle.resolver.specs.declared.sites.PlaceRead.TheVariants as placed
-use Rattle.resolver.specs.declared.sites.CallRead.{CallRead}
-use Rattle.resolver.specs.declared.sites.CallRead.TheVariants as call
-use Rattle.resolver.specs.declared.items.CodeRead.{CodeRead}
-use Rattle.resolver.specs.declared.items.CodeRead.TheVariants as code
-use Rattle.resolver.specs.declared.rising.Risen.{Risen}
-use Rattle.resolver.specs.declared.rising.Risen.TheVariants as risen
 use Rattle.resolver.specs.Data.{Piece, items_at}
 use Rattle.resolver.specs.Book.{book_of, reads_name}
 use Rattle.resolver.specs.Heard.{ask, Heard, known, fault, hear}
 use Rattle.resolver.specs.Spell.{Looked, refusing, spell_text}
 use Rattle.resolver.specs.Lookup.{lookup_of}
 use Rattle.resolver.specs.Stages.{record_of, place_in, place_at, call_at, plain_answer, answer_with}
+use Rattle.linetab.specs.declared.LineTableRow.{LineTableRow}
 
 -- ---- records as numbers
 
@@ -50,24 +42,24 @@ frames_from k (suc n) xs = frame_at k xs ∷ frames_from (k + 1) n xs
 
 -- ---- what the items say
 
-unfoldable pub as_code : Heard → CodeRead
-as_code (known r fs) = code.Known r (length fs)
-as_code (fault n) = code.Refused n
+unfoldable pub as_code : Heard → Result (Option LineTableRow × ℕ) ℕ
+as_code (known r fs) = Ok (r, length fs)
+as_code (fault n) = Err n
 
 unfoldable pub heard_frames : Heard → List InlineFrame
 heard_frames (known r fs) = fs
 heard_frames (fault n) = []
 
 -- how many numbers the frames take
-abbrev pub takes : CodeRead → ℕ
-takes (code.Known r count) = 3 * count
-takes (code.Refused n) = 0
+abbrev pub takes : Result (Option LineTableRow × ℕ) ℕ → ℕ
+takes (Ok (r, count)) = 3 * count
+takes (Err n) = 0
 
 abbrev pub heard_in : Address → Address → ℕ → List Piece → Heard
-heard_in symbol addr room ps = hear (ask symbol addr room true) ps found.Nothing []
+heard_in symbol addr room ps = hear (ask symbol addr room true) ps None []
 
 -- what `code_in` answers and leaves: the frames at the front of the store
-pub record Hears (symbol addr : Address) (ps : List Piece) (entry exit : List ℕ) (r : CodeRead) : Type 0 where
+pub record Hears (symbol addr : Address) (ps : List Piece) (entry exit : List ℕ) (r : Result (Option LineTableRow × ℕ) ℕ) : Type 0 where
   pub says : r ≡ as_code (heard_in symbol addr (min 64 (length entry / 3)) ps)
   pub frames : take (takes r) exit ≡ flat (heard_frames (heard_in symbol addr (min 64 (length entry / 3)) ps))
   pub kept : length exit ≡ length entry
@@ -83,9 +75,9 @@ pub data Lifted : Type 0 where
   lifted : List Frame → Lifted
   no : ℕ → Lifted
 
-abbrev pub then_lift : (Frame → Lifted) → CallRead → Lifted
-then_lift go (call.Is f) = go f
-then_lift go (call.Refused n) = no n
+abbrev pub then_lift : (Frame → Lifted) → Result Frame ℕ → Lifted
+then_lift go (Ok f) = go f
+then_lift go (Err n) = no n
 
 -- the records of frames, after those made so far, the next of which has a name: it gets the position of the frame after
 -- it, the last the row's
@@ -94,9 +86,9 @@ lift file t row made name [] = lifted (made ++ record_of name row ∷ [])
 lift file t row made name (f ∷ fs) =
     then_lift (λ g. lift file t row (made ++ record_of name (place_in g) ∷ []) g.name fs) (call_at file t f)
 
-abbrev pub as_risen : Lifted → Risen
-as_risen (lifted fs) = risen.All
-as_risen (no n) = risen.Refused n
+abbrev pub as_risen : Lifted → Result (Unit {0}) ℕ
+as_risen (lifted fs) = Ok tt
+as_risen (no n) = Err n
 
 unfoldable pub lifted_frames : Lifted → List Frame
 lifted_frames (lifted fs) = fs
@@ -107,7 +99,7 @@ abbrev pub lift_all : List ℕ → Tables → List ℕ → ℕ → Text → Plac
 lift_all file t frames count under row = lift file t row [] under (frames_from 2 (count - 2) frames)
 
 pub record Rises (file : List ℕ) (t : Tables) (frames : List ℕ) (count : ℕ) (under : Text) (row : Place)
-    (entry exit : List ℕ) (r : Risen) : Type 0 where
+    (entry exit : List ℕ) (r : Result (Unit {0}) ℕ) : Type 0 where
   pub says : r ≡ as_risen (lift_all file t frames count under row)
   pub records :
       take (7 * length (lifted_frames (lift_all file t frames count under row))) exit
@@ -120,9 +112,9 @@ abbrev pub after_lift : Entry → Text → Frame → Lifted → Looked
 after_lift e name first (lifted fs) = record { answer = answer_with e name (place_in first) (length fs); frames = fs }
 after_lift e name first (no n) = refusing n
 
-abbrev pub after_first : List ℕ → Tables → Entry → Text → Place → List InlineFrame → CallRead → Looked
-after_first file t e name row fs (call.Is g) = after_lift e name g (lift file t row [] g.name fs)
-after_first file t e name row fs (call.Refused n) = refusing n
+abbrev pub after_first : List ℕ → Tables → Entry → Text → Place → List InlineFrame → Result Frame ℕ → Looked
+after_first file t e name row fs (Ok g) = after_lift e name g (lift file t row [] g.name fs)
+after_first file t e name row fs (Err n) = refusing n
 
 -- frames behind the first: none leaves the symbol at the row's position
 unfoldable pub with_later : List ℕ → Tables → Entry → Text → Place → List InlineFrame → Looked
@@ -137,14 +129,14 @@ with_named file t e row (f ∷ fs) =
     (with_later file t e (spell_text (book_of file t) t.strings.place f.name.0) row fs)
     (refusing 6)
 
-abbrev pub with_place : List ℕ → Tables → Entry → List InlineFrame → PlaceRead → Looked
-with_place file t e fs (placed.Is p) = with_named file t e p fs
-with_place file t e fs (placed.Refused n) = refusing n
+abbrev pub with_place : List ℕ → Tables → Entry → List InlineFrame → Result Place ℕ → Looked
+with_place file t e fs (Ok p) = with_named file t e p fs
+with_place file t e fs (Err n) = refusing n
 
 unfoldable pub with_heard : List ℕ → Tables → Entry → Heard → Looked
-with_heard file t e (known (found.Row r) fs) =
+with_heard file t e (known (Some r) fs) =
     with_place file t e fs (place_at file t r.file_idx.0 r.file_line.0)
-with_heard file t e (known found.Nothing fs) = record { answer = plain_answer e; frames = [] }
+with_heard file t e (known None fs) = record { answer = plain_answer e; frames = [] }
 with_heard file t e (fault n) = refusing n
 
 -- an entry with position and frames

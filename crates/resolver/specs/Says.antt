@@ -1,18 +1,16 @@
 -- What an entry says at an address, with strings as offsets in the string table (document 01, from "If size is not 0"
 -- to the end of "Putting the answer together"). No place of the file is in it.
 -- Assumes nothing.
-use Rattle.std.specs.Prelude.{ℕ, Bool, true, false, List, [], ◌∷◌}
+use Rattle.std.specs.Prelude.{ℕ, Bool, true, false, List, [], ◌∷◌, Some, None, Option}
 use Rattle.reads.specs.Pick.{pick}
 use Rattle.types.specs.declared.Address.{Address}
 use Rattle.types.specs.declared.Options.{Options}
 use Rattle.types.specs.declared.InlineFrame.{InlineFrame}
-use Rattle.linetab.specs.declared.RowFound.TheVariants as found
-use Rattle.parser.specs.declared.FileRead.{FileRead}
-use Rattle.parser.specs.declared.FileRead.TheVariants as row
 use Rattle.parser.specs.Entries.{covered_by}
 use Rattle.resolver.specs.Data.{Data}
 use Rattle.resolver.specs.Book.{Book, nth_file, reads_text, reads_name}
 use Rattle.resolver.specs.Heard.{Ask, ask, Heard, known, fault, hear}
+use Rattle.parser.specs.declared.FileInfo.{FileInfo}
 
 -- a position: directory and file as offsets, and the line
 pub record Site : Type 0 where
@@ -44,12 +42,12 @@ abbrev pub site : ℕ → ℕ → ℕ → Site
 site dir file line = record { dir = dir; file = file; line = line }
 
 -- directory, then file: 8
-unfoldable pub site_in : Book → ℕ → FileRead → SiteRead
-site_in b line (row.Is r) =
+unfoldable pub site_in : Book → ℕ → Option FileInfo → SiteRead
+site_in b line (Some r) =
     pick (reads_text b r.directory.0)
     (pick (reads_text b r.filename.0) (is (site r.directory.0 r.filename.0 line)) (no 8))
     (no 8)
-site_in b line row.Unread = no 7
+site_in b line None = no 7
 
 -- the position of a file index, 7 where it isn't below the file count, and a line
 unfoldable pub site_of : Book → (index line : ℕ) → SiteRead
@@ -102,13 +100,13 @@ with_frames b d (f ∷ fs) (is row) =
 
 -- no row: no position, no frames, name unchanged
 unfoldable pub after_heard : Book → Data → Heard → Said
-after_heard b d (known (found.Row r) fs) = with_frames b d fs (site_of b r.file_idx.0 r.file_line.0)
-after_heard b d (known found.Nothing fs) = says d.size d.name absent []
+after_heard b d (known (Some r) fs) = with_frames b d fs (site_of b r.file_idx.0 r.file_line.0)
+after_heard b d (known None fs) = says d.size d.name absent []
 after_heard b d (fault n) = refuses n
 
 -- with a name that reads: without code info asked for there is nothing more
 unfoldable pub say_more : Book → Data → Ask → Bool → Said
-say_more b d q true = after_heard b d (hear q d.items found.Nothing [])
+say_more b d q true = after_heard b d (hear q d.items None [])
 say_more b d q false = says d.size d.name absent []
 
 -- what an entry says: the size rule (1), the name (6), and what is asked for

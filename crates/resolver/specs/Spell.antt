@@ -1,14 +1,12 @@
 -- What is said, as the answer that a caller gets: an offset becomes a place, counted from the file's start, and a
 -- length; zero where there is none. And the same with each text as its bytes.
 -- Assumes nothing.
-use Rattle.std.specs.Prelude.{ℕ, ◌+◌, Bool, true, false, List, [], map, length, take, drop}
+use Rattle.std.specs.Prelude.{ℕ, ◌+◌, Bool, true, false, List, [], map, length, take, drop, Some, None, Option}
 use Rattle.types.specs.declared.Address.{Address}
 use Rattle.types.specs.declared.Text.{Text}
 use Rattle.types.specs.declared.Answer.{Answer}
 use Rattle.types.specs.declared.Frame.{Frame}
 use Rattle.types.specs.Refusal.{no_text, refusal}
-use Rattle.strtab.specs.declared.Len.{Len}
-use Rattle.strtab.specs.declared.Len.TheVariants.{Spans, Nothing}
 use Rattle.strtab.specs.Strings.{text_in, part_of}
 use Rattle.resolver.specs.Book.{Book}
 use Rattle.resolver.specs.Says.{Call, Position, at, absent, Said, says, refuses}
@@ -18,9 +16,9 @@ pub record Looked : Type 0 where
   pub answer : Answer
   pub frames : List Frame
 
-abbrev pub text : ℕ → Len → Text
-text place (Spans n) = record { place = place; len = n }
-text place Nothing = no_text
+abbrev pub text : ℕ → Option ℕ → Text
+text place (Some n) = record { place = place; len = n }
+text place None = no_text
 
 -- the string at an offset of a table that stands at a place
 unfoldable pub spell_text : Book → (place : ℕ) → ℕ → Text
@@ -114,9 +112,9 @@ shown file l = record {
 }
 
 -- the bytes of what is said, from the book alone
-abbrev pub cut : List ℕ → Len → List ℕ
-cut bytes (Spans n) = take n bytes
-cut bytes Nothing = []
+abbrev pub cut : List ℕ → Option ℕ → List ℕ
+cut bytes (Some n) = take n bytes
+cut bytes None = []
 
 unfoldable pub read_text : Book → ℕ → List ℕ
 read_text b offset = cut (drop offset b.strings) (text_in b.strings offset)

@@ -4,65 +4,39 @@ ghost use Rattle.std.specs.Prelude.{◌≡◌};
 ghost use Rattle.resolver.specs.Stages.{entry_at, landing_of};
 
 use super::Entry;
-use parser::{Found, InfoRead, Opened, Tables};
-use strtab::TextRead;
+use parser::Tables;
 use types::Address;
 
-// What an entry says of its symbol, or the refusal 5, 1 or 6.
-#[derive(Clone, Copy)]
-enum EntryRead {
-    Is(Entry),
-    Refused(u8),
-}
-
-// The tables and the entry that an address lands on, or a refusal's number.
-#[derive(Clone, Copy)]
-pub(crate) enum Landing {
-    On { tables: Tables, entry: Entry },
-    Refused(u8),
-}
-
-// Entry i of the address table, for an address that landed there.
-fn entry_of(file: &[u8], tables: Tables, i: usize, addr: Address) -> EntryRead
+// Entry i of the address table, for an address that landed there; or the refusal 5, 1 or 6.
+fn entry_of(file: &[u8], tables: Tables, i: usize, addr: Address) -> Result<Entry, u8>
     ensures { result ≡ entry_at file.now tables i addr }
 {
     let symbol = parser::addr_at(file, tables, i);
-    match parser::addr_info(file, tables, i) {
-        InfoRead::Is(info) => {
-            let size = info.size;
-            let offset = info.name;
-            let items = info.items;
-            if parser::covers(addr, symbol, size) {
-                let strings = tables.strings;
-                match strtab::name_at(file, strings, offset) {
-                    TextRead::Is(name) => EntryRead::Is(Entry {
-                        symbol,
-                        size,
-                        name,
-                        items,
-                    }),
-                    TextRead::Unread => EntryRead::Refused(types::UNREAD_NAME),
-                }
-            } else {
-                EntryRead::Refused(types::UNKNOWN_ADDRESS)
-            }
-        }
-        InfoRead::Unread => EntryRead::Refused(types::UNREAD_INFO),
+    let Some(info) = parser::addr_info(file, tables, i) else {
+        return Err(types::UNREAD_INFO);
+    };
+    if !parser::covers(addr, symbol, info.size) {
+        return Err(types::UNKNOWN_ADDRESS);
     }
+    let Some(name) = strtab::name_at(file, tables.strings, info.name) else {
+        return Err(types::UNREAD_NAME);
+    };
+    Ok(Entry {
+        symbol,
+        size: info.size,
+        name,
+        items: info.items,
+    })
 }
 
-// The entry of an address in a file.
-pub(crate) fn land(file: &[u8], addr: Address) -> Landing
+// The tables and the entry that an address lands on, or the refusal's number.
+pub(crate) fn land(file: &[u8], addr: Address) -> Result<(Tables, Entry), u8>
     ensures { result ≡ landing_of file.now addr }
 {
-    match parser::parse_header(file) {
-        Opened::Is(tables) => match parser::find_addr(file, tables, addr) {
-            Found::At(i) => match entry_of(file, tables, i, addr) {
-                EntryRead::Is(entry) => Landing::On { tables, entry },
-                EntryRead::Refused(n) => Landing::Refused(n),
-            },
-            Found::Unknown => Landing::Refused(types::UNKNOWN_ADDRESS),
-        },
-        Opened::Refused(n) => Landing::Refused(n),
-    }
+    let tables = parser::parse_header(file)?;
+    let Some(i) = parser::find_addr(file, tables, addr) else {
+        return Err(types::UNKNOWN_ADDRESS);
+    };
+    let entry = entry_of(file, tables, i, addr)?;
+    Ok((tables, entry))
 }

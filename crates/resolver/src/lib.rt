@@ -16,17 +16,15 @@ mod sites;
 ghost use Rattle.std.specs.Prelude.{true, false, ◌≡◌, ◌/◌, ◌*◌, ◌+◌, ◌≤◌, ◌<◌, min, length};
 ghost use Rattle.parser.specs.Header.{Within};
 ghost use Rattle.resolver.specs.Lookup.{lookup_of};
-ghost use Rattle.resolver.specs.Stages.{plain_answer, answer_with, row_rest, plain_options, all_options};
+ghost use Rattle.resolver.specs.Stages.{answered, plain_answer, answer_with, row_rest, plain_options, all_options};
 ghost use Rattle.resolver.specs.Rows.{records_in, Writes, WritesNamed, Wrote, Looks};
 
-use items::{CodeRead, code_in};
-use landing::{Landing, land};
-use linetab::RowFound;
+use items::code_in;
+use landing::land;
 use parser::Tables;
-use rising::{Risen, rise};
-use rows::{RowRead, row_in};
-use sites::{CallRead, PlaceRead, call_at, place_of, site_at};
-use strtab::TextRead;
+use rising::rise;
+use rows::row_in;
+use sites::{call_at, place_of, site_at};
 use types::{Address, Answer, LineNumber, Options, StrOffset, Text};
 
 // What an entry says of its symbol: address, size, name, and the place of its first item.
@@ -50,16 +48,15 @@ pub(crate) struct Place {
 fn plain(entry: Entry) -> Answer
     ensures { result ≡ plain_answer entry }
 {
-    let addr = entry.symbol;
-    let name = entry.name;
+    let none = Text { place: 0, len: 0 };
     Answer {
         number: types::FOUND,
-        addr,
+        addr: entry.symbol,
         size: entry.size,
-        name,
+        name: entry.name,
         has_code: false,
-        dir: Text { place: 0, len: 0 },
-        file: Text { place: 0, len: 0 },
+        dir: none,
+        file: none,
         line: LineNumber(0),
         count: 0,
     }
@@ -69,43 +66,29 @@ fn plain(entry: Entry) -> Answer
 fn placed(entry: Entry, name: Text, at: Place, count: usize) -> Answer
     ensures { result ≡ answer_with entry name at count }
 {
-    let addr = entry.symbol;
-    let dir = at.dir;
-    let file = at.file;
-    let line = at.line;
     Answer {
         number: types::FOUND,
-        addr,
+        addr: entry.symbol,
         size: entry.size,
         name,
         has_code: true,
-        dir,
-        file,
-        line,
+        dir: at.dir,
+        file: at.file,
+        line: at.line,
         count,
     }
 }
 
 // The symbol with its row's position, if there is a row. `lookup_plain` has opened the tables.
-fn with_row(file: &[u8], tables: Tables, entry: Entry, addr: Address) -> Answer
+fn with_row(file: &[u8], tables: Tables, entry: Entry, addr: Address) -> Result<Answer, u8>
     requires { Within file.now tables }
-    ensures { result ≡ row_rest file.now tables entry addr }
+    ensures { answered result ≡ row_rest file.now tables entry addr }
 {
-    let items = entry.items;
-    let symbol = entry.symbol;
-    let name = entry.name;
-    match row_in(file, items, symbol, addr) {
-        RowRead::Row(row) => {
-            let index = row.file_idx;
-            let line = row.file_line;
-            match site_at(file, tables, index, line) {
-                PlaceRead::Is(at) => placed(entry, name, at, 0),
-                PlaceRead::Refused(n) => types::refused(n),
-            }
-        }
-        RowRead::Nothing => plain(entry),
-        RowRead::Unread => types::refused(types::UNREAD_LINE_HEADER),
-    }
+    let Some(row) = row_in(file, entry.items, entry.symbol, addr)? else {
+        return Ok(plain(entry));
+    };
+    let at = site_at(file, tables, row.file_idx, row.file_line)?;
+    Ok(placed(entry, entry.name, at, 0))
 }
 
 // The symbol of an address, with its position if code info is asked for, and without inlined calls: nothing is kept for
@@ -113,16 +96,28 @@ fn with_row(file: &[u8], tables: Tables, entry: Entry, addr: Address) -> Answer
 pub fn lookup_plain(file: &[u8], addr: Address, code_info: bool) -> Answer
     ensures { result ≡ (lookup_of file.now addr (plain_options code_info) 0).answer }
 {
-    match land(file, addr) {
-        Landing::On { tables, entry } => {
-            if code_info {
-                with_row(file, tables, entry, addr)
-            } else {
-                plain(entry)
-            }
-        }
-        Landing::Refused(n) => types::refused(n),
+    answer(found_plain(file, addr, code_info))
+}
+
+// An answer, or the refusal of a number.
+fn answer(read: Result<Answer, u8>) -> Answer
+    ensures { result ≡ answered read }
+{
+    match read {
+        Ok(answer) => answer,
+        Err(number) => types::refused(number),
     }
+}
+
+// `lookup_plain`, its refusal as a number.
+fn found_plain(file: &[u8], addr: Address, code_info: bool) -> Result<Answer, u8>
+    ensures { answered result ≡ (lookup_of file.now addr (plain_options code_info) 0).answer }
+{
+    let (tables, entry) = land(file, addr)?;
+    if !code_info {
+        return Ok(plain(entry));
+    }
+    with_row(file, tables, entry, addr)
 }
 
 // The symbol at its row's position where a block has frames: the first only replaces the name, the others become
@@ -135,32 +130,20 @@ fn renamed(
     frames: &[u32],
     count: usize,
     out: &mut [u64],
-) -> Answer
+) -> Result<Answer, u8>
     requires { Within file.now tables × (0 < count) × (3 * count ≤ length frames.now) × (7 * count ≤ length out.old) }
     ensures { WritesNamed file.now tables entry row frames.now count
-        out.old out.new result }
+        out.old out.new (answered result) }
 {
-    let strings = tables.strings;
-    let offset = StrOffset(frames[0]);
-    match strtab::name_at(file, strings, offset) {
-        TextRead::Is(name) => {
-            if count == 1 {
-                return placed(entry, name, row, 0);
-            }
-            match call_at(file, tables, frames, 1) {
-                CallRead::Is(first) => {
-                    let at = place_of(first);
-                    let under = first.name;
-                    match rise(file, tables, frames, count, under, row, out) {
-                        Risen::All => placed(entry, name, at, count - 1),
-                        Risen::Refused(n) => types::refused(n),
-                    }
-                }
-                CallRead::Refused(n) => types::refused(n),
-            }
-        }
-        TextRead::Unread => types::refused(types::UNREAD_NAME),
+    let Some(name) = strtab::name_at(file, tables.strings, StrOffset(frames[0])) else {
+        return Err(types::UNREAD_NAME);
+    };
+    if count == 1 {
+        return Ok(placed(entry, name, row, 0));
     }
+    let first = call_at(file, tables, frames, 1)?;
+    rise(file, tables, frames, count, first.name, row, out)?;
+    Ok(placed(entry, name, place_of(first), count - 1))
 }
 
 // The symbol with position and inlined calls. `frames` has room for the frames of a block, and `out` for as many
@@ -172,33 +155,20 @@ fn with_frames(
     addr: Address,
     frames: &mut [u32],
     out: &mut [u64],
-) -> Answer
+) -> Result<Answer, u8>
     requires { Within file.now tables × (7 * min 64 (length frames.old / 3) ≤ length out.old) }
     ensures { Writes file.now tables entry addr (min 64 (length frames.old / 3))
-        out.old out.new result }
+        out.old out.new (answered result) }
 {
-    let items = entry.items;
-    let symbol = entry.symbol;
-    let name = entry.name;
-    match code_in(file, items, symbol, addr, frames) {
-        CodeRead::Known { row, count } => match row {
-            RowFound::Row(known) => {
-                let index = known.file_idx;
-                let line = known.file_line;
-                match site_at(file, tables, index, line) {
-                    PlaceRead::Is(at) => {
-                        if count == 0 {
-                            return placed(entry, name, at, 0);
-                        }
-                        renamed(file, tables, entry, at, frames, count, out)
-                    }
-                    PlaceRead::Refused(n) => types::refused(n),
-                }
-            }
-            RowFound::Nothing => plain(entry),
-        },
-        CodeRead::Refused(n) => types::refused(n),
+    let (row, count) = code_in(file, entry.items, entry.symbol, addr, frames)?;
+    let Some(row) = row else {
+        return Ok(plain(entry));
+    };
+    let at = site_at(file, tables, row.file_idx, row.file_line)?;
+    if count == 0 {
+        return Ok(placed(entry, entry.name, at, 0));
     }
+    renamed(file, tables, entry, at, frames, count, out)
 }
 
 // Room for the frames of a block, three numbers each.
@@ -212,27 +182,19 @@ fn frame_room() -> [u32; 192]
 fn numbers_for(len: usize) -> usize
     ensures { result ≡ 3 * min 64 (len / 7) }
 {
-    let records = len / rising::RECORD_WIDTH;
-    if types::MAX_FRAMES < records {
-        return 3 * types::MAX_FRAMES;
-    }
-    3 * records
+    3 * (len / rising::RECORD_WIDTH).min(types::MAX_FRAMES)
 }
 
 // The symbol of an address with position and inlined calls.
-fn lookup_frames(file: &[u8], addr: Address, store: &mut [u64]) -> Answer
+fn lookup_frames(file: &[u8], addr: Address, store: &mut [u64]) -> Result<Answer, u8>
     ensures { Wrote (lookup_of file.now addr all_options (records_in store.old))
-        store.old store.new result }
+        store.old store.new (answered result) }
 {
-    match land(file, addr) {
-        Landing::On { tables, entry } => {
-            let mut space = frame_room();
-            let all: &mut [u32] = &mut space;
-            let n = numbers_for(store.len());
-            with_frames(file, tables, entry, addr, &mut all[..n], store)
-        }
-        Landing::Refused(n) => types::refused(n),
-    }
+    let (tables, entry) = land(file, addr)?;
+    let mut space = frame_room();
+    let all: &mut [u32] = &mut space;
+    let n = numbers_for(store.len());
+    with_frames(file, tables, entry, addr, &mut all[..n], store)
 }
 
 // The symbol of an address with all that is asked for. The later frames become records at the front of `store`, seven
@@ -243,7 +205,7 @@ pub fn lookup_in(file: &[u8], addr: Address, options: Options, store: &mut [u64]
     ensures { Looks file.now addr options store.old store.new result }
 {
     if options.code_info && options.inlining {
-        return lookup_frames(file, addr, store);
+        return answer(lookup_frames(file, addr, store));
     }
     lookup_plain(file, addr, options.code_info)
 }

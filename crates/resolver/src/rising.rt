@@ -5,19 +5,12 @@ ghost use Rattle.parser.specs.Header.{Within};
 ghost use Rattle.resolver.specs.Rows.{PutsRow, Rises};
 
 use super::Place;
-use super::sites::{CallRead, call_at, place_of};
+use super::sites::{call_at, place_of};
 use parser::Tables;
 use types::Text;
 
 // A record takes seven numbers: place and length of name, directory and file, and the line.
 pub(crate) const RECORD_WIDTH: usize = 7;
-
-// Whether all later frames were written, or the refusal 6, 7 or 8.
-#[derive(Clone, Copy)]
-pub(crate) enum Risen {
-    All,
-    Refused(u8),
-}
 
 // Writes record k. The callers give room for it.
 fn put_row(out: &mut [u64], k: usize, name: Text, at: Place)
@@ -47,23 +40,16 @@ pub(crate) fn rise(
     under: Text,
     row: Place,
     out: &mut [u64],
-) -> Risen
+) -> Result<(), u8>
     requires { Within file.now tables × (2 ≤ count) × (3 * count ≤ length frames.now) × (7 * count ≤ length out.old) }
     ensures { Rises file.now tables frames.now count under row out.old out.new result }
 {
     let mut name = under;
-    let mut k = 2;
-    while k < count {
-        match call_at(file, tables, frames, k) {
-            CallRead::Is(next) => {
-                let at = place_of(next);
-                put_row(out, k - 2, name, at);
-                name = next.name;
-                k = k + 1;
-            }
-            CallRead::Refused(n) => return Risen::Refused(n),
-        }
+    for k in 2..count {
+        let next = call_at(file, tables, frames, k)?;
+        put_row(out, k - 2, name, place_of(next));
+        name = next.name;
     }
     put_row(out, count - 2, name, row);
-    Risen::All
+    Ok(())
 }

@@ -1,21 +1,12 @@
 -- The part of the file that is asked for, and from a string of the table's bytes to the answer in the file: each way
 -- out of `part`, `text_at` and `name_at`.
 -- Assumes nothing.
-use Prim.Native.Nat.{ℕ, ◌+◌, ◌-◌, ◌≤◌, ◌<◌}
-use mathlib.Core.List.{List, []}
-use mathlib.Core.Path.{◌≡◌, refl, ap, sym, ◌∙◌}
-use mathlib.Core.Logic.{⊎_elim}
-use lib.ListN.{length, take, drop, length-drop}
-use lib.Seq.{length-take-le}
+use Rattle.std.proofs.Common.{ℕ, ◌+◌, ◌-◌, ◌≤◌, ◌<◌, List, [], ◌≡◌, refl, ap, sym, ◌∙◌, ⊎_elim, length, take, drop, length-drop, length-take-le, arith, le-leb, Option, Some, None}
 use native.Mathlib.Nat.{add-sub_cancel_left}
-use native.Mathlib.Omega.{arith}
-use borrow.Author.Tests.{le-leb, lt-leb}
+use borrow.Author.Tests.{lt-leb}
 use Rattle.types.specs.declared.StrOffset.{StrOffset}
 use Rattle.strtab.specs.Strings.{part_of, placed, in_table}
 use Rattle.strtab.specs.declared.StrTable.{StrTable}
-use Rattle.strtab.specs.declared.TextRead.TheVariants.{Is, Unread}
-use Rattle.strtab.specs.declared.Len.{Len}
-use Rattle.strtab.specs.declared.Len.TheVariants.{Spans, Nothing}
 use Rattle.std.proofs.lemmas.Bool.{cases_lt}
 use Rattle.strtab.proofs.Texts.{Inside}
 
@@ -35,10 +26,10 @@ module _ (file : List ℕ) (place len : ℕ) where
   unfolding part_of
   part-outside p = let f : length file < place + len = omega arith in rw (lt-leb _ _ f)
 
-module _ {read : List ℕ → ℕ → Len} (inside : Inside read) where
-  nothing-in : (at : ℕ) (l : Len) → read [] at ≡ l → l ≡ Nothing
-  nothing-in at (Spans n) e = absurd (omega (arith, inside [] at n e))
-  nothing-in at Nothing e = refl
+module _ {read : List ℕ → ℕ → Option ℕ} (inside : Inside read) where
+  nothing-in : (at : ℕ) (l : Option ℕ) → read [] at ≡ l → l ≡ None
+  nothing-in at (Some n) e = absurd (omega (arith, inside [] at n e))
+  nothing-in at None e = refl
 
   part_length : (file : List ℕ) (place size : ℕ) → length (part_of file place size) ≤ length file - place
   unfolding part_of
@@ -63,18 +54,18 @@ module _ {read : List ℕ → ℕ → Len} (inside : Inside read) where
         (cases_lt (length file) (table.place + table.size))
 
     -- s is the table's part of the file, and l what is read in it
-    module _ (s : List ℕ) (l : Len)
+    module _ (s : List ℕ) (l : Option ℕ)
         (p : s ≡ part_of file table.place table.size) (q : l ≡ read s offset.0) where
       whole : in_table read file table offset ≡ placed (table.place + offset.0) l
       whole = in-part ∙ ap (placed (table.place + offset.0)) (sym (q ∙ ap (λ x. read x offset.0) p))
 
-      pub fits : (n : ℕ) → l ≡ Spans n → table.place + offset.0 < length file
+      pub fits : (n : ℕ) → l ≡ Some n → table.place + offset.0 < length file
       fits n e =
           omega (arith, inside s offset.0 n (sym q ∙ e), ap length p, part_length file table.place table.size)
 
-      pub found : (n : ℕ) → l ≡ Spans n →
-          Is (record { place = table.place + offset.0; len = n }) ≡ in_table read file table offset
+      pub found : (n : ℕ) → l ≡ Some n →
+          Some (record { place = table.place + offset.0; len = n }) ≡ in_table read file table offset
       found n e = sym (whole ∙ ap (placed (table.place + offset.0)) e)
 
-      pub unread : l ≡ Nothing → Unread ≡ in_table read file table offset
+      pub unread : l ≡ None → None ≡ in_table read file table offset
       unread e = sym (whole ∙ ap (placed (table.place + offset.0)) e)

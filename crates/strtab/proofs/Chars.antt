@@ -1,13 +1,6 @@
 -- UTF-8 one character at a time: what the length of a character says, and each way out of judging one.
 -- Assumes nothing.
-use Prim.Native.Nat.{ℕ, suc, ◌+◌, ◌-◌, ◌≤◌, ◌<◌}
-use mathlib.Core.Bool.{Bool, true, false, true≢false}
-use mathlib.Core.List.{List, [], ◌∷◌}
-use mathlib.Core.Path.{◌≡◌, refl, ap, sym, ◌∙◌}
-use mathlib.Core.Logic.{⊎_elim}
-use lib.ListN.{length, get_or, take, drop, length-drop, drop_of_length-le}
-use lib.Seq.{drop-cons, drop-drop, length-take-le}
-use native.Mathlib.Omega.{arith}
+use Rattle.std.proofs.Common.{ℕ, suc, ◌+◌, ◌-◌, ◌≤◌, ◌<◌, Bool, true, false, true≢false, List, [], ◌∷◌, ◌≡◌, refl, ap, sym, ◌∙◌, ⊎_elim, length, get_or, take, drop, length-drop, drop_of_length-le, drop-cons, drop-drop, length-take-le, arith}
 use Rattle.reads.specs.Pick.{pick}
 use Rattle.strtab.specs.Utf8.{Range, range, within, tail, Start, starts, nowhere, begun}
 use Rattle.strtab.specs.Utf8.{followers, octets, utf8, sequence_len}

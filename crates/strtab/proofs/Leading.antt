@@ -1,14 +1,6 @@
 -- What a first byte says of its sequence: the rule of document 01 by ranges and the grammar of RFC 3629 are one.
 -- Assumes nothing.
-use Prim.Native.Nat.{ℕ, zero, suc, ◌≤◌, ◌<◌}
-use mathlib.Core.Bool.{Bool, true, false}
-use mathlib.Core.List.{List, [], ◌∷◌}
-use mathlib.Core.Path.{◌≡◌, refl, ap}
-use mathlib.Core.Logic.{⊎_elim}
-use lib.Dec.{T, eqb, eqb→eq, leb, leb→le}
-use lib.ListN.{take, replicate}
-use native.Mathlib.Omega.{arith}
-use borrow.Author.Tests.{le-leb}
+use Rattle.std.proofs.Common.{ℕ, zero, suc, ◌≤◌, ◌<◌, Bool, true, false, List, [], ◌∷◌, ◌≡◌, refl, ap, ⊎_elim, T, eqb, eqb→eq, leb, leb→le, take, replicate, arith, le-leb}
 use Rattle.strtab.specs.Utf8.{Range, range, tail, Start, starts, nowhere, followers, sequence_len, size_of}
 use Rattle.strtab.specs.Steps.{second}
 use Rattle.std.proofs.lemmas.Bool.{cases_lt}

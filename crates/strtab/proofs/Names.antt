@@ -1,22 +1,13 @@
 -- A name read in one pass: the zero byte is looked for and UTF-8 judged at the same time, since no character but the
 -- zero byte itself has a zero byte in it.
 -- Assumes nothing.
-use Prim.Native.Nat.{ℕ, suc, ◌+◌, ◌-◌, ◌≤◌, ◌<◌}
-use mathlib.Core.Bool.{Bool, true, false, not}
-use mathlib.Core.List.{List, [], ◌∷◌}
-use mathlib.Core.Path.{◌≡◌, refl, ap, sym, ◌∙◌}
-use lib.Dec.{T, eqb}
-use lib.ListN.{length, get_or, take, drop, drop_of_length-le}
-use lib.Seq.{drop-cons, drop-drop}
-use native.Mathlib.Omega.{arith}
-use borrow.Author.Tests.{eq-eqb, eqb-true, eqb-false}
+use Rattle.std.proofs.Common.{ℕ, suc, ◌+◌, ◌-◌, ◌≤◌, ◌<◌, Bool, true, false, not, List, [], ◌∷◌, ◌≡◌, refl, ap, sym, ◌∙◌, T, eqb, length, get_or, take, drop, drop_of_length-le, drop-cons, drop-drop, arith, eq-eqb, eqb-true, Option, Some, None}
+use borrow.Author.Tests.{eqb-false}
 use Rattle.reads.specs.Pick.{pick}
 use Rattle.strtab.specs.Utf8.{Range, range, within, Start, starts, nowhere, characters, after}
 use Rattle.strtab.specs.Utf8.{begun, followers, octets, utf8}
 use Rattle.strtab.specs.Steps.{met, sized, char_len}
 use Rattle.strtab.specs.Strings.{longer, before_zero, judged, name_in}
-use Rattle.strtab.specs.declared.Len.{Len}
-use Rattle.strtab.specs.declared.Len.TheVariants.{Spans, Nothing}
 use Rattle.strtab.proofs.Ranges.{in-range}
 use Rattle.strtab.proofs.Table.{both, both_left, both_right}
 use Rattle.strtab.proofs.Leading.{followers-ascii}
@@ -58,14 +49,14 @@ followers-high b = after-high b characters tt
 -- ------------------------------------------------------------------------------------------------
 -- the name that bytes begin with, where ranges are still owed
 
-abbrev weighed : List Range → List ℕ → Len → Len
-weighed rs bs (Spans n) = pick (octets rs (take n bs)) (Spans n) Nothing
-weighed rs bs Nothing = Nothing
+abbrev weighed : List Range → List ℕ → Option ℕ → Option ℕ
+weighed rs bs (Some n) = pick (octets rs (take n bs)) (Some n) None
+weighed rs bs None = None
 
-pub named : List Range → List ℕ → Len
+pub named : List Range → List ℕ → Option ℕ
 named rs bs = weighed rs bs (before_zero bs)
 
-longer-pick : (n : ℕ) (t : Bool) (l : Len) → longer n (pick t l Nothing) ≡ pick t (longer n l) Nothing
+longer-pick : (n : ℕ) (t : Bool) (l : Option ℕ) → longer n (pick t l None) ≡ pick t (longer n l) None
 longer-pick n true l = refl
 longer-pick n false l = refl
 
@@ -74,31 +65,31 @@ module _ (b : ℕ) (bs : List ℕ) (d : b ≡ 0 → ⊥) where
   one_more m = let e : 1 + m ≡ suc m = omega arith in ap (λ k. take k (b ∷ bs)) e
 
   owed-of : (t : Bool) (x : Bool) (m : ℕ) →
-      pick (pick t x false) (Spans (1 + m)) Nothing ≡ pick t (longer 1 (pick x (Spans m) Nothing)) Nothing
+      pick (pick t x false) (Some (1 + m)) None ≡ pick t (longer 1 (pick x (Some m) None)) None
   owed-of true true m = refl
   owed-of true false m = refl
   owed-of false x m = refl
 
-  owed-len : (r : Range) (rs : List Range) (l : Len) →
-      weighed (r ∷ rs) (b ∷ bs) (longer 1 l) ≡ pick (within r b) (longer 1 (weighed rs bs l)) Nothing
+  owed-len : (r : Range) (rs : List Range) (l : Option ℕ) →
+      weighed (r ∷ rs) (b ∷ bs) (longer 1 l) ≡ pick (within r b) (longer 1 (weighed rs bs l)) None
   unfolding octets
-  owed-len r rs (Spans m) = rw (one_more m) (owed-of (within r b) (octets rs (take m bs)) m)
-  owed-len r rs Nothing = same (within r b)
+  owed-len r rs (Some m) = rw (one_more m) (owed-of (within r b) (octets rs (take m bs)) m)
+  owed-len r rs None = same (within r b)
     where
-      same : (t : Bool) → Nothing ≡ pick t Nothing Nothing
+      same : (t : Bool) → ◌≡◌ {A = Option ℕ} None (pick t None None)
       same true = refl
       same false = refl
 
-  owed : (r : Range) (rs : List Range) → named (r ∷ rs) (b ∷ bs) ≡ pick (within r b) (longer 1 (named rs bs)) Nothing
+  owed : (r : Range) (rs : List Range) → named (r ∷ rs) (b ∷ bs) ≡ pick (within r b) (longer 1 (named rs bs)) None
   unfolding named
   owed r rs = ap (weighed (r ∷ rs) (b ∷ bs)) (text-more b bs d) ∙ owed-len r rs (before_zero bs)
 
-named-nil : (rs : List Range) → named rs [] ≡ Nothing
+named-nil : (rs : List Range) → named rs [] ≡ None
 unfolding named before_zero
 named-nil rs = refl
 
 -- a zero byte where more is owed
-owed-zero : (r : Range) (rs : List Range) (b : ℕ) (bs : List ℕ) → b ≡ 0 → named (r ∷ rs) (b ∷ bs) ≡ Nothing
+owed-zero : (r : Range) (rs : List Range) (b : ℕ) (bs : List ℕ) → b ≡ 0 → named (r ∷ rs) (b ∷ bs) ≡ None
 unfolding named octets before_zero
 owed-zero r rs b bs e = rw (eq-eqb _ _ e)
 
@@ -108,55 +99,55 @@ not-zero false h = refl
 
 -- what is owed is met, and the name goes on after it
 named-met : (rs : List Range) (bs : List ℕ) → T (high rs) →
-    named rs bs ≡ pick (met rs bs) (longer (length rs) (named [] (drop (length rs) bs))) Nothing
+    named rs bs ≡ pick (met rs bs) (longer (length rs) (named [] (drop (length rs) bs))) None
 unfolding met high
 named-met [] bs h = longer-none (named [] bs)
 named-met (r ∷ rs) [] h = named-nil (r ∷ rs)
 named-met (r ∷ rs) (b ∷ bs) h = go (named-met rs bs (both_right (not (within r 0)) (high rs) h)) (eqb b 0) refl
   where
-    rest : Len
+    rest : Option ℕ
     rest = named [] (drop (length rs) bs)
 
-    step : (t m : Bool) (n : ℕ) (l : Len) →
-        pick t (longer 1 (pick m (longer n l) Nothing)) Nothing ≡ pick (pick t m false) (longer (suc n) l) Nothing
+    step : (t m : Bool) (n : ℕ) (l : Option ℕ) →
+        pick t (longer 1 (pick m (longer n l) None)) None ≡ pick (pick t m false) (longer (suc n) l) None
     step true true n l = let e : 1 + n ≡ suc n = omega arith in longer-longer 1 n l ∙ ap (λ k. longer k l) e
     step true false n l = refl
     step false m n l = refl
 
-    go : named rs bs ≡ pick (met rs bs) (longer (length rs) rest) Nothing → (t : Bool) → eqb b 0 ≡ t →
-        named (r ∷ rs) (b ∷ bs) ≡ pick (pick (within r b) (met rs bs) false) (longer (suc (length rs)) rest) Nothing
+    go : named rs bs ≡ pick (met rs bs) (longer (length rs) rest) None → (t : Bool) → eqb b 0 ≡ t →
+        named (r ∷ rs) (b ∷ bs) ≡ pick (pick (within r b) (met rs bs) false) (longer (suc (length rs)) rest) None
     go i true q =
         let e : b ≡ 0 = eqb-true b 0 q in
         let z : within r 0 ≡ false = not-zero (within r 0) (both_left (not (within r 0)) (high rs) h) in
         let w : within r b ≡ false = ap (within r) e ∙ z in
         owed-zero r rs b bs e
-        ∙ sym (ap (λ t. pick (pick t (met rs bs) false) (longer (suc (length rs)) rest) Nothing) w)
+        ∙ sym (ap (λ t. pick (pick t (met rs bs) false) (longer (suc (length rs)) rest) None) w)
     go i false q =
         owed b bs (eqb-false b 0 q) r rs
-        ∙ ap (λ l. pick (within r b) (longer 1 l) Nothing) i
+        ∙ ap (λ l. pick (within r b) (longer 1 l) None) i
         ∙ step (within r b) (met rs bs) (length rs) rest
 
 -- ------------------------------------------------------------------------------------------------
 -- a character that is not the zero byte
 
-abbrev onward : Start → List ℕ → Len → Len
+abbrev onward : Start → List ℕ → Option ℕ → Option ℕ
 onward (starts rs) bs l = longer 1 (weighed rs bs l)
-onward nowhere bs l = Nothing
+onward nowhere bs l = None
 
 module _ (b : ℕ) (bs : List ℕ) (d : b ≡ 0 → ⊥) where
   onward-spans : (st : Start) (m : ℕ) →
-      pick (begun st (λ rs. octets rs (take m bs))) (Spans (1 + m)) Nothing ≡ onward st bs (Spans m)
-  onward-spans (starts rs) m = sym (longer-pick 1 (octets rs (take m bs)) (Spans m))
+      pick (begun st (λ rs. octets rs (take m bs))) (Some (1 + m)) None ≡ onward st bs (Some m)
+  onward-spans (starts rs) m = sym (longer-pick 1 (octets rs (take m bs)) (Some m))
   onward-spans nowhere m = refl
 
-  onward-nothing : (st : Start) → Nothing ≡ onward st bs Nothing
+  onward-nothing : (st : Start) → None ≡ onward st bs None
   onward-nothing (starts rs) = refl
   onward-nothing nowhere = refl
 
-  start-len : (l : Len) → weighed [] (b ∷ bs) (longer 1 l) ≡ onward (followers b) bs l
+  start-len : (l : Option ℕ) → weighed [] (b ∷ bs) (longer 1 l) ≡ onward (followers b) bs l
   unfolding octets
-  start-len (Spans m) = rw (one_more b bs d m) (onward-spans (followers b) m)
-  start-len Nothing = onward-nothing (followers b)
+  start-len (Some m) = rw (one_more b bs d m) (onward-spans (followers b) m)
+  start-len None = onward-nothing (followers b)
 
   named_start : named [] (b ∷ bs) ≡ onward (followers b) bs (before_zero bs)
   unfolding named
@@ -170,12 +161,12 @@ name-byte b bs w =
 
 -- by the character's length
 module _ (bs : List ℕ) where
-  cut_off : (t : Bool) (k : ℕ) (l : Len) → pick t (suc k) 0 ≡ 0 → longer 1 (pick t (longer k l) Nothing) ≡ Nothing
+  cut_off : (t : Bool) (k : ℕ) (l : Option ℕ) → pick t (suc k) 0 ≡ 0 → longer 1 (pick t (longer k l) None) ≡ None
   cut_off true k l e = absurd (omega arith)
   cut_off false k l e = refl
 
   carry-on : (t : Bool) (k n : ℕ) → pick t (suc k) 0 ≡ n → (n ≡ 0 → ⊥) →
-      longer 1 (pick t (longer k (named [] (drop k bs))) Nothing) ≡ longer n (named [] (drop (n - 1) bs))
+      longer 1 (pick t (longer k (named [] (drop k bs))) None) ≡ longer n (named [] (drop (n - 1) bs))
   carry-on true k n e z =
       let p : 1 + k ≡ n = omega arith in
       let q : k ≡ n - 1 = omega arith in
@@ -183,7 +174,7 @@ module _ (bs : List ℕ) where
       ∙ ap (λ j. longer n (named [] (drop j bs))) q
   carry-on false k n e z = absurd (z (sym e))
 
-  onward-none : (st : Start) → T (start-high st) → sized st bs ≡ 0 → onward st bs (before_zero bs) ≡ Nothing
+  onward-none : (st : Start) → T (start-high st) → sized st bs ≡ 0 → onward st bs (before_zero bs) ≡ None
   unfolding start-high named
   onward-none (starts rs) h e =
       ap (longer 1) (named-met rs bs h) ∙ cut_off (met rs bs) (length rs) (named [] (drop (length rs) bs)) e
@@ -199,20 +190,20 @@ module _ (bs : List ℕ) where
 -- at a place of the table's bytes: each way out of the scan, and each turn
 
 module _ (s : List ℕ) (i : ℕ) where
-  judged-named : (l : Len) → judged (drop i s) l ≡ weighed [] (drop i s) l
+  judged-named : (l : Option ℕ) → judged (drop i s) l ≡ weighed [] (drop i s) l
   unfolding utf8
-  judged-named (Spans n) = refl
-  judged-named Nothing = refl
+  judged-named (Some n) = refl
+  judged-named None = refl
 
   pub name-begin : name_in s i ≡ named [] (drop i s)
   unfolding name_in named
   name-begin = ap (judged (drop i s)) (text-begin s i) ∙ judged-named (before_zero (drop i s))
 
-  pub name-over : length s ≤ i → named [] (drop i s) ≡ Nothing
+  pub name-over : length s ≤ i → named [] (drop i s) ≡ None
   name-over l = rw (drop_of_length-le s l) (named-nil [])
 
   module _ (h : i < length s) where
-    pub name-zero : get_or s i 0 ≡ 0 → named [] (drop i s) ≡ Spans 0
+    pub name-zero : get_or s i 0 ≡ 0 → named [] (drop i s) ≡ Some 0
     unfolding named octets before_zero
     name-zero e = rw (drop-cons s i 0 h, eq-eqb _ _ e)
 
@@ -220,7 +211,7 @@ module _ (s : List ℕ) (i : ℕ) where
       named-at : named [] (drop i s) ≡ onward (followers (get_or s i 0)) (drop (suc i) s) (before_zero (drop (suc i) s))
       named-at = ap (named []) (drop-cons s i 0 h) ∙ named_start (get_or s i 0) (drop (suc i) s) d
 
-      pub name-none : (n : ℕ) → n ≡ char_len (drop i s) → n ≡ 0 → named [] (drop i s) ≡ Nothing
+      pub name-none : (n : ℕ) → n ≡ char_len (drop i s) → n ≡ 0 → named [] (drop i s) ≡ None
       name-none n e z =
           named-at
           ∙ onward-none (drop (suc i) s) (followers (get_or s i 0)) (followers-high (get_or s i 0))

@@ -1,38 +1,29 @@
 -- Reading a string byte by byte: what was passed and what is left, and each way out of the scan.
 -- Assumes nothing.
-use Prim.Native.Nat.{ℕ, ◌+◌, ◌-◌, ◌≤◌, ◌<◌}
-use mathlib.Core.List.{List, ◌∷◌}
-use mathlib.Core.Path.{◌≡◌, refl, ap, sym, ◌∙◌}
-use mathlib.Core.Logic.{⊎_elim}
-use lib.ListN.{length, get_or, drop, drop_of_length-le}
-use lib.Seq.{drop-cons}
-use native.Mathlib.Omega.{arith}
-use borrow.Author.Tests.{lt-ltb, le-ltb, eq-eqb, ne_eqb}
+use Rattle.std.proofs.Common.{ℕ, ◌+◌, ◌-◌, ◌≤◌, ◌<◌, List, ◌∷◌, ◌≡◌, refl, ap, sym, ◌∙◌, ⊎_elim, length, get_or, drop, drop_of_length-le, drop-cons, arith, lt-ltb, le-ltb, eq-eqb, ne_eqb, Option, Some, None}
 use Rattle.strtab.specs.Strings.{longer, before_zero, text_in}
-use Rattle.strtab.specs.declared.Len.{Len}
-use Rattle.strtab.specs.declared.Len.TheVariants.{Spans, Nothing}
 use Rattle.std.proofs.lemmas.Bool.{cases_lt}
 
-pub longer-none : (l : Len) → l ≡ longer 0 l
-longer-none (Spans n) = let e : n ≡ 0 + n = omega arith in ap Spans e
-longer-none Nothing = refl
+pub longer-none : (l : Option ℕ) → l ≡ longer 0 l
+longer-none (Some n) = let e : n ≡ 0 + n = omega arith in ap Some e
+longer-none None = refl
 
-pub longer-longer : (n m : ℕ) (l : Len) → longer n (longer m l) ≡ longer (n + m) l
-longer-longer n m (Spans k) = let e : n + (m + k) ≡ n + m + k = omega arith in ap Spans e
-longer-longer n m Nothing = refl
+pub longer-longer : (n m : ℕ) (l : Option ℕ) → longer n (longer m l) ≡ longer (n + m) l
+longer-longer n m (Some k) = let e : n + (m + k) ≡ n + m + k = omega arith in ap Some e
+longer-longer n m None = refl
 
 -- of the answer `whole` for the bytes from at on, those from at to i are passed, and `read` of the rest is left
-pub record Passed (whole : Len) (read : List ℕ → Len) (s : List ℕ) (at i : ℕ) : Type 0 where
+pub record Passed (whole : Option ℕ) (read : List ℕ → Option ℕ) (s : List ℕ) (at i : ℕ) : Type 0 where
   pub from : at ≤ i
   pub rest : whole ≡ longer (i - at) (read (drop i s))
 
-pub begin : {whole : Len} {read : List ℕ → Len} (s : List ℕ) (at : ℕ) →
+pub begin : {whole : Option ℕ} {read : List ℕ → Option ℕ} (s : List ℕ) (at : ℕ) →
     whole ≡ read (drop at s) → Passed whole read s at at
 begin {whole} {read} s at e =
     let z : 0 ≡ at - at = omega arith in
     record { from = omega arith; rest = e ∙ longer-none (read (drop at s)) ∙ ap (λ k. longer k (read (drop at s))) z }
 
-module _ {whole : Len} {read : List ℕ → Len} {s : List ℕ} {at i : ℕ} (h : Passed whole read s at i) where
+module _ {whole : Option ℕ} {read : List ℕ → Option ℕ} {s : List ℕ} {at i : ℕ} (h : Passed whole read s at i) where
   pub pass : (n : ℕ) → read (drop i s) ≡ longer n (read (drop (i + n) s)) → Passed whole read s at (i + n)
   pass n e =
       let z : i - at + n ≡ i + n - at = omega (arith, h.from) in
@@ -43,10 +34,10 @@ module _ {whole : Len} {read : List ℕ → Len} {s : List ℕ} {at i : ℕ} (h 
             ∙ ap (λ k. longer k (read (drop (i + n) s))) z;
       }
 
-  pub ended : read (drop i s) ≡ Spans 0 → Spans (i - at) ≡ whole
-  ended e = let z : i - at ≡ i - at + 0 = omega arith in ap Spans z ∙ sym (h.rest ∙ ap (longer (i - at)) e)
+  pub ended : read (drop i s) ≡ Some 0 → Some (i - at) ≡ whole
+  ended e = let z : i - at ≡ i - at + 0 = omega arith in ap Some z ∙ sym (h.rest ∙ ap (longer (i - at)) e)
 
-  pub failed : read (drop i s) ≡ Nothing → Nothing ≡ whole
+  pub failed : read (drop i s) ≡ None → None ≡ whole
   failed e = sym (h.rest ∙ ap (longer (i - at)) e)
 
 -- ------------------------------------------------------------------------------------------------
@@ -65,10 +56,10 @@ unfolding before_zero
 text-more b bs d = rw (ne_eqb _ _ d)
 
 module _ (s : List ℕ) (i : ℕ) where
-  pub text-over : length s ≤ i → before_zero (drop i s) ≡ Nothing
+  pub text-over : length s ≤ i → before_zero (drop i s) ≡ None
   unfolding before_zero
   text-over l = rw (drop_of_length-le s l)
 
-  pub text-zero : i < length s → get_or s i 0 ≡ 0 → before_zero (drop i s) ≡ Spans 0
+  pub text-zero : i < length s → get_or s i 0 ≡ 0 → before_zero (drop i s) ≡ Some 0
   unfolding before_zero
   text-zero l e = rw (drop-cons s i 0 l, eq-eqb _ _ e)

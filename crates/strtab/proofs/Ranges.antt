@@ -1,11 +1,8 @@
 -- Tests on numbers and ranges of bytes.
 -- Assumes nothing.
-use Prim.Native.Nat.{ℕ, ◌≤◌, ◌<◌}
-use mathlib.Core.Bool.{Bool, true, false, false≢true}
-use mathlib.Core.Path.{◌≡◌, refl}
-use native.Mathlib.Omega.{arith}
-use borrow.Author.Tests.{leb-true, leb-false, lt-leb}
-use lib.Dec.{leb}
+use Rattle.std.proofs.Common.{ℕ, ◌≤◌, ◌<◌, Bool, true, false, ◌≡◌, refl, arith, leb-true, leb-false, leb}
+use mathlib.Core.Bool.{false≢true}
+use borrow.Author.Tests.{lt-leb}
 use Rattle.reads.specs.Pick.{pick}
 use Rattle.strtab.specs.Utf8.{range, within}
 

@@ -1,18 +1,10 @@
 -- Runs of bytes in a range: each turn and way out of passing one, and what it passes of a string, a name and UTF-8.
 -- Assumes nothing.
-use Prim.Native.Nat.{ℕ, suc, ◌+◌, ◌-◌, ◌≤◌, ◌<◌}
-use mathlib.Core.Bool.{Bool, true, false}
-use mathlib.Core.List.{List, [], ◌∷◌}
-use mathlib.Core.Path.{◌≡◌, refl, ap, sym, ◌∙◌}
-use lib.ListN.{length, get_or, drop, length-drop, drop_of_length-le}
-use lib.Seq.{drop-cons, drop-drop, get_or-drop}
-use native.Mathlib.Omega.{arith}
+use Rattle.std.proofs.Common.{ℕ, suc, ◌+◌, ◌-◌, ◌≤◌, ◌<◌, Bool, true, false, List, [], ◌∷◌, ◌≡◌, refl, ap, sym, ◌∙◌, length, get_or, drop, length-drop, drop_of_length-le, drop-cons, drop-drop, get_or-drop, arith, Option, Some, None}
 use Rattle.reads.specs.Pick.{pick}
 use Rattle.strtab.specs.Utf8.{Range, range, within, utf8}
 use Rattle.strtab.specs.Steps.{run_len}
 use Rattle.strtab.specs.Strings.{longer, before_zero, text_in}
-use Rattle.strtab.specs.declared.Len.{Len}
-use Rattle.strtab.specs.declared.Len.TheVariants.{Spans, Nothing}
 use Rattle.strtab.proofs.Ranges.{in-range, below-range}
 use Rattle.strtab.proofs.Chars.{utf8-byte}
 use Rattle.strtab.proofs.Passing.{Passed, begin, pass, ended, failed, longer-none, longer-longer}
@@ -84,7 +76,7 @@ module _ {A : Type 0} (r : Range) (read : List ℕ → A) where
       go i false q = refl
 
 -- a reader for which it counts as one byte
-module _ (r : Range) (read : List ℕ → Len)
+module _ (r : Range) (read : List ℕ → Option ℕ)
     (h : (b : ℕ) (bs : List ℕ) → within r b ≡ true → read (b ∷ bs) ≡ longer 1 (read bs)) where
   run-longer : (bs : List ℕ) → read bs ≡ longer (run_len r bs) (read (drop (run_len r bs) bs))
   unfolding run_len
@@ -99,7 +91,7 @@ module _ (r : Range) (read : List ℕ → Len)
           ∙ ap (λ k. longer k (read (drop (run_len r bs) bs))) e
       go i false q = longer-none (read (b ∷ bs))
 
-  pub pass-run : {whole : Len} {s : List ℕ} {at i : ℕ} → Passed whole read s at i →
+  pub pass-run : {whole : Option ℕ} {s : List ℕ} {at i : ℕ} → Passed whole read s at i →
       (j : ℕ) → j ≡ i + run_len r (drop i s) → Passed whole read s at j
   pass-run {whole} {s} {at} {i} p j e =
       let n : ℕ = run_len r (drop i s) in
@@ -115,15 +107,15 @@ module _ (s : List ℕ) (at j : ℕ) (e : j ≡ at + run_len (range 1 0xff) (dro
   text-passed : Passed (text_in s at) before_zero s at j
   text-passed = pass-run (range 1 0xff) before_zero text-byte (begin s at (text-begin s at)) j e
 
-  pub text-endless : length s ≤ j → Nothing ≡ text_in s at
+  pub text-endless : length s ≤ j → None ≡ text_in s at
   text-endless l = failed text-passed (text-over s j l)
 
-  pub text-ended : j < length s → get_or s j 0 < 256 → Spans (j - at) ≡ text_in s at
+  pub text-ended : j < length s → get_or s j 0 < 256 → Some (j - at) ≡ text_in s at
   text-ended l z =
       let b = below-range 1 0xff (get_or s j 0) (omega arith) (run-stops (range 1 0xff) s at j e l) in
       ended text-passed (text-zero s j l (omega arith))
 
-pub text-outside : (s : List ℕ) (at : ℕ) → length s ≤ at → Nothing ≡ text_in s at
+pub text-outside : (s : List ℕ) (at : ℕ) → length s ≤ at → None ≡ text_in s at
 text-outside s at l = sym (text-begin s at ∙ text-over s at l)
 
 -- and one of bytes below 80, in UTF-8

@@ -1,9 +1,7 @@
 -- The examples of RFC 3629, of the definition: the strings of section 7 are UTF-8, and the sequences of section 3 that
 -- a decoder must refuse are not.
 -- Assumes nothing.
-use mathlib.Core.Bool.{true, false}
-use mathlib.Core.List.{[], ◌∷◌}
-use mathlib.Core.Path.{◌≡◌, refl}
+use Rattle.std.proofs.Common.{true, false, [], ◌∷◌, ◌≡◌, refl}
 use Rattle.strtab.specs.Utf8.{followers, octets, utf8}
 
 -- U+0041 U+2262 U+0391 U+002E

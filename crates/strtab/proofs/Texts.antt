@@ -1,16 +1,8 @@
 -- Laws of the strings that read, for whoever calls: a string lies inside the file with a zero byte after it and none in
 -- it, a name is a string that is UTF-8, and the answer is that of the table's own bytes.
 -- Assumes nothing.
-use Prim.Native.Nat.{ℕ, zero, suc, ◌+◌, ◌-◌, ◌≤◌, ◌<◌}
-use mathlib.Core.Bool.{Bool, true, false}
-use mathlib.Core.List.{List, [], ◌∷◌}
-use mathlib.Core.Path.{◌≡◌, refl, ap, sym, ◌∙◌}
-use mathlib.Core.Logic.{⊎_elim}
-use lib.Dec.{eqb}
-use lib.ListN.{length, get_or, take, drop, length-drop}
-use lib.Seq.{length-take-le, get_or-take, get_or-drop, ext_get_or}
-use native.Mathlib.Omega.{arith}
-use borrow.Author.Tests.{lt-ltb, le-ltb, le-leb, lt-leb, eqb-true, eqb-false}
+use Rattle.std.proofs.Common.{ℕ, zero, suc, ◌+◌, ◌-◌, ◌≤◌, ◌<◌, Bool, true, false, List, [], ◌∷◌, ◌≡◌, refl, ap, sym, ◌∙◌, ⊎_elim, eqb, length, get_or, take, drop, length-drop, length-take-le, get_or-take, get_or-drop, ext_get_or, arith, lt-ltb, le-ltb, le-leb, eqb-true, Option, Some, None}
+use borrow.Author.Tests.{lt-leb, eqb-false}
 use Rattle.reads.specs.Pick.{pick}
 use Rattle.types.specs.declared.StrOffset.{StrOffset}
 use Rattle.types.specs.declared.Text.{Text}
@@ -18,9 +10,6 @@ use Rattle.strtab.specs.Utf8.{utf8}
 use Rattle.strtab.specs.Strings.{part_of, longer, before_zero, judged, text_in, name_in, placed, in_table}
 use Rattle.strtab.specs.Strings.{text_at, name_at}
 use Rattle.strtab.specs.declared.StrTable.{StrTable}
-use Rattle.strtab.specs.declared.TextRead.TheVariants.{Is, Unread}
-use Rattle.strtab.specs.declared.Len.{Len}
-use Rattle.strtab.specs.declared.Len.TheVariants.{Spans, Nothing}
 use Rattle.std.proofs.lemmas.Bool.{cases_lt}
 
 never : {A : Type 0} → ◌≡◌ {A = ℕ} 0 1 → A
@@ -32,12 +21,12 @@ pub record ZeroEnded (bs : List ℕ) (n : ℕ) : Type 0 where
   pub zero-after : get_or bs n 0 ≡ 0
   pub none_before : (k : ℕ) → k < n → get_or bs k 0 ≡ 0 → ⊥
 
-longer-is : (l : Len) (n : ℕ) → longer 1 l ≡ Spans n → (l ≡ Spans (n - 1)) × (n ≡ suc (n - 1))
-longer-is (Spans m) n e =
+longer-is : (l : Option ℕ) (n : ℕ) → longer 1 l ≡ Some n → (l ≡ Some (n - 1)) × (n ≡ suc (n - 1))
+longer-is (Some m) n e =
     let q : n ≡ 1 + m = cc in
     let p : m ≡ n - 1 = omega arith in
-    (ap Spans p, omega arith)
-longer-is Nothing n e = let z : ◌≡◌ {A = ℕ} 0 1 = cc in never z
+    (ap Some p, omega arith)
+longer-is None n e = let z : ◌≡◌ {A = ℕ} 0 1 = cc in never z
 
 zero-ended-cons : (b : ℕ) (bs : List ℕ) (n : ℕ) → (b ≡ 0 → ⊥) → ZeroEnded bs n → ZeroEnded (b ∷ bs) (suc n)
 zero-ended-cons b bs n d h =
@@ -47,13 +36,13 @@ zero-ended-cons b bs n d h =
     before zero l e = d e
     before (suc k) l e = h.none_before k (omega arith) e
 
-pub before-zero-is : (bs : List ℕ) (n : ℕ) → before_zero bs ≡ Spans n → ZeroEnded bs n
+pub before-zero-is : (bs : List ℕ) (n : ℕ) → before_zero bs ≡ Some n → ZeroEnded bs n
 unfolding before_zero
 before-zero-is [] n e = let z : ◌≡◌ {A = ℕ} 0 1 = cc in never z
 before-zero-is (b ∷ bs) n e = go (before-zero-is bs) (eqb b 0) refl e
   where
-    go : ((m : ℕ) → before_zero bs ≡ Spans m → ZeroEnded bs m) →
-        (t : Bool) → eqb b 0 ≡ t → pick t (Spans 0) (longer 1 (before_zero bs)) ≡ Spans n → ZeroEnded (b ∷ bs) n
+    go : ((m : ℕ) → before_zero bs ≡ Some m → ZeroEnded bs m) →
+        (t : Bool) → eqb b 0 ≡ t → pick t (Some 0) (longer 1 (before_zero bs)) ≡ Some n → ZeroEnded (b ∷ bs) n
     go h true q e =
         let p : 0 ≡ n = cc in
         rw (← p)
@@ -65,35 +54,35 @@ before-zero-is (b ∷ bs) n e = go (before-zero-is bs) (eqb b 0) refl e
 -- ------------------------------------------------------------------------------------------------
 -- in the table's own bytes
 module _ (s : List ℕ) (at n : ℕ) where
-  pub text_in-is : text_in s at ≡ Spans n → (at + n < length s) × ZeroEnded (drop at s) n
+  pub text_in-is : text_in s at ≡ Some n → (at + n < length s) × ZeroEnded (drop at s) n
   unfolding text_in
   text_in-is e =
       ⊎_elim
       (λ (l : at < length s).
-      let e' : before_zero (drop at s) ≡ Spans n = simp (lt-ltb _ _ l) at e in
+      let e' : before_zero (drop at s) ≡ Some n = simp (lt-ltb _ _ l) at e in
       let z = before-zero-is (drop at s) n e' in
       (omega (arith, z.inside, length-drop at s), z))
       (λ (l : length s ≤ at).
-      let e' : Nothing ≡ Spans n = simp (le-ltb _ _ l) at e in
+      let e' : None ≡ Some n = simp (le-ltb _ _ l) at e in
       let z : ◌≡◌ {A = ℕ} 0 1 = cc in never z)
       (cases_lt at (length s))
 
-  judged-is : (l : Len) → judged (drop at s) l ≡ Spans n → (l ≡ Spans n) × (utf8 (take n (drop at s)) ≡ true)
-  judged-is Nothing e = let z : ◌≡◌ {A = ℕ} 0 1 = cc in never z
-  judged-is (Spans m) e = go (utf8 (take m (drop at s))) refl e
+  judged-is : (l : Option ℕ) → judged (drop at s) l ≡ Some n → (l ≡ Some n) × (utf8 (take n (drop at s)) ≡ true)
+  judged-is None e = let z : ◌≡◌ {A = ℕ} 0 1 = cc in never z
+  judged-is (Some m) e = go (utf8 (take m (drop at s))) refl e
     where
-      go : (t : Bool) → utf8 (take m (drop at s)) ≡ t → pick t (Spans m) Nothing ≡ Spans n →
-          (Spans m ≡ Spans n) × (utf8 (take n (drop at s)) ≡ true)
+      go : (t : Bool) → utf8 (take m (drop at s)) ≡ t → pick t (Some m) None ≡ Some n →
+          (Some m ≡ Some n) × (utf8 (take n (drop at s)) ≡ true)
       go true q e = let k : n ≡ m = cc in (e, ap (λ j. utf8 (take j (drop at s))) k ∙ q)
       go false q e = let z : ◌≡◌ {A = ℕ} 0 1 = cc in never z
 
-  pub name-in-is : name_in s at ≡ Spans n → (text_in s at ≡ Spans n) × (utf8 (take n (drop at s)) ≡ true)
+  pub name-in-is : name_in s at ≡ Some n → (text_in s at ≡ Some n) × (utf8 (take n (drop at s)) ≡ true)
   unfolding name_in
   name-in-is e = judged-is (text_in s at) e
 
 -- a reader of the table's bytes whose strings lie inside them
-abbrev pub Inside : (List ℕ → ℕ → Len) → Type 0
-Inside read = (s : List ℕ) (at n : ℕ) → read s at ≡ Spans n → at + n < length s
+abbrev pub Inside : (List ℕ → ℕ → Option ℕ) → Type 0
+Inside read = (s : List ℕ) (at n : ℕ) → read s at ≡ Some n → at + n < length s
 
 pub text_in-inside : Inside text_in
 text_in-inside s at n e = (text_in-is s at n e).0
@@ -105,24 +94,24 @@ name-in-inside s at n e = (text_in-is s at n (name-in-is s at n e).0).0
 -- in the file
 
 -- what an answer says: the table is a part of the file, and its bytes have that string at the offset
-pub record Found (read : List ℕ → ℕ → Len) (file : List ℕ) (table : StrTable) (offset : StrOffset) (t : Text)
+pub record Found (read : List ℕ → ℕ → Option ℕ) (file : List ℕ) (table : StrTable) (offset : StrOffset) (t : Text)
     : Type 0 where
   pub fits : table.place + table.size ≤ length file
   pub counted : t.place ≡ table.place + offset.0
-  pub spans : read (take table.size (drop table.place file)) offset.0 ≡ Spans t.len
+  pub spans : read (take table.size (drop table.place file)) offset.0 ≡ Some t.len
 
-placed-is : (at : ℕ) (l : Len) (t : Text) → placed at l ≡ Is t → (t.place ≡ at) × (l ≡ Spans t.len)
-placed-is at (Spans n) t e =
+placed-is : (at : ℕ) (l : Option ℕ) (t : Text) → placed at l ≡ Some t → (t.place ≡ at) × (l ≡ Some t.len)
+placed-is at (Some n) t e =
     let q : t ≡ (record { place = at; len = n }) = cc in
-    (ap (λ x. x.place) q, ap (λ x. Spans x.len) (sym q))
-placed-is at Nothing t e = let z : ◌≡◌ {A = ℕ} 0 1 = cc in never z
+    (ap (λ x. x.place) q, ap (λ x. Some x.len) (sym q))
+placed-is at None t e = let z : ◌≡◌ {A = ℕ} 0 1 = cc in never z
 
-module _ (read : List ℕ → ℕ → Len) (file : List ℕ) (table : StrTable) (offset : StrOffset) where
-  in-table-is : (t : Text) → in_table read file table offset ≡ Is t → Found read file table offset t
+module _ (read : List ℕ → ℕ → Option ℕ) (file : List ℕ) (table : StrTable) (offset : StrOffset) where
+  in-table-is : (t : Text) → in_table read file table offset ≡ Some t → Found read file table offset t
   in-table-is t e =
       ⊎_elim
       (λ (l : length file < table.place + table.size).
-      let e' : Unread ≡ Is t = simp (lt-leb _ _ l) at e in
+      let e' : None ≡ Some t = simp (lt-leb _ _ l) at e in
       let z : ◌≡◌ {A = ℕ} 0 1 = cc in never z)
       (λ (l : table.place + table.size ≤ length file).
       let bytes : List ℕ = take table.size (drop table.place file) in
@@ -174,24 +163,24 @@ module _ (file : List ℕ) (table : StrTable) (offset : StrOffset) where
   unfolding name_at
   name-in-table l = rw (le-leb _ _ l)
 
-  pub text-no-table : length file < table.place + table.size → text_at file table offset ≡ Unread
+  pub text-no-table : length file < table.place + table.size → text_at file table offset ≡ None
   unfolding text_at
   text-no-table l = rw (lt-leb _ _ l)
 
-  pub name-no-table : length file < table.place + table.size → name_at file table offset ≡ Unread
+  pub name-no-table : length file < table.place + table.size → name_at file table offset ≡ None
   unfolding name_at
   name-no-table l = rw (lt-leb _ _ l)
 
 module _ (file : List ℕ) (table : StrTable) (offset : StrOffset) (t : Text) where
-  pub text-found : text_at file table offset ≡ Is t → Found text_in file table offset t
+  pub text-found : text_at file table offset ≡ Some t → Found text_in file table offset t
   unfolding text_at
   text-found e = in-table-is text_in file table offset t e
 
-  pub name-found : name_at file table offset ≡ Is t → Found name_in file table offset t
+  pub name-found : name_at file table offset ≡ Some t → Found name_in file table offset t
   unfolding name_at
   name-found e = in-table-is name_in file table offset t e
 
-  room : (read : List ℕ → ℕ → Len) → Inside read → Found read file table offset t → offset.0 + t.len < table.size
+  room : (read : List ℕ → ℕ → Option ℕ) → Inside read → Found read file table offset t → offset.0 + t.len < table.size
   room read i h =
       omega (
         arith,
@@ -200,37 +189,37 @@ module _ (file : List ℕ) (table : StrTable) (offset : StrOffset) (t : Text) wh
       )
 
   -- a string lies inside the file, and the byte after it too
-  pub text-within : text_at file table offset ≡ Is t → t.place + t.len < length file
+  pub text-within : text_at file table offset ≡ Some t → t.place + t.len < length file
   text-within e =
       let h = text-found e in
       omega (arith, room text_in text_in-inside h, h.fits, h.counted)
 
   -- a name is a string
-  pub name-is-text : name_at file table offset ≡ Is t → text_at file table offset ≡ Is t
+  pub name-is-text : name_at file table offset ≡ Some t → text_at file table offset ≡ Some t
   unfolding text_at
   name-is-text e =
       let h = name-found e in
       let n = name-in-is (take table.size (drop table.place file)) offset.0 t.len h.spans in
       rw (le-leb _ _ h.fits, n.0, ← h.counted)
 
-  pub name-within : name_at file table offset ≡ Is t → t.place + t.len < length file
+  pub name-within : name_at file table offset ≡ Some t → t.place + t.len < length file
   name-within e = text-within (name-is-text e)
 
   -- the bytes that `text` hands back: those of the table
-  part-is : (read : List ℕ → ℕ → Len) → Inside read → Found read file table offset t →
+  part-is : (read : List ℕ → ℕ → Option ℕ) → Inside read → Found read file table offset t →
       part_of file t.place t.len ≡ take t.len (drop offset.0 (take table.size (drop table.place file)))
   part-is read i h =
       rw h.counted
       (part-in-table file table.place table.size offset.0 t.len h.fits (omega (arith, room read i h)))
 
-  pub text-part-length : text_at file table offset ≡ Is t → length (part_of file t.place t.len) ≡ t.len
+  pub text-part-length : text_at file table offset ≡ Some t → length (part_of file t.place t.len) ≡ t.len
   unfolding part_of
   text-part-length e =
       let l : t.place + t.len ≤ length file = omega (arith, text-within e) in
       rw (le-leb _ _ l) (length-take-le t.len (drop t.place file) (omega (arith, length-drop t.place file)))
 
   -- no zero byte in it
-  pub text-no-zero : text_at file table offset ≡ Is t →
+  pub text-no-zero : text_at file table offset ≡ Some t →
       (k : ℕ) → k < t.len → get_or (part_of file t.place t.len) k 0 ≡ 0 → ⊥
   text-no-zero e k l z =
       let h = text-found e in
@@ -239,7 +228,7 @@ module _ (file : List ℕ) (table : StrTable) (offset : StrOffset) (t : Text) wh
       d.none_before k l
       (sym (ap (λ x. get_or x k 0) (part-is text_in text_in-inside h) ∙ get_or-take t.len (drop offset.0 s) k 0 l) ∙ z)
 
-  pub name-is-utf8 : name_at file table offset ≡ Is t → utf8 (part_of file t.place t.len) ≡ true
+  pub name-is-utf8 : name_at file table offset ≡ Some t → utf8 (part_of file t.place t.len) ≡ true
   name-is-utf8 e =
       let h = name-found e in
       ap utf8 (part-is name_in name-in-inside h)

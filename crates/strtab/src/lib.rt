@@ -22,114 +22,80 @@ pub struct StrTable {
     pub size: usize,
 }
 
-// A string that was asked for.
-#[derive(Clone, Copy)]
-pub enum TextRead {
-    Is(Text),
-    Unread,
-}
-
-// How long a string of the table is, or that there is none.
-#[derive(Clone, Copy)]
-pub enum Len {
-    Spans(usize),
-    Nothing,
-}
-
-// The directory or file string at an offset of the string table. Unread where the table is no part of the file, the
+// The directory or file string at an offset of the string table. None where the table is no part of the file, the
 // offset is not inside it, or no zero byte follows inside it (document 01, "Finding the entry"). It need not be UTF-8.
-pub fn text_at(file: &[u8], table: StrTable, offset: StrOffset) -> TextRead
+pub fn text_at(file: &[u8], table: StrTable, offset: StrOffset) -> Option<Text>
     ensures { result ≡ text_at file.now table offset }
 {
-    let place = table.place;
-    let size = table.size;
     let at = offset.0 as usize;
-    let strings = part(file, place, size);
-    match text_in(strings, at) {
-        Len::Spans(len) => {
-            let start = place + at;
-            TextRead::Is(Text { place: start, len })
-        }
-        Len::Nothing => TextRead::Unread,
-    }
+    let strings = part(file, table.place, table.size);
+    let len = text_in(strings, at)?;
+    let start = table.place + at;
+    Some(Text { place: start, len })
 }
 
-// The name at an offset of the string table. Unread where `text_at` is, and where the string is not UTF-8.
-pub fn name_at(file: &[u8], table: StrTable, offset: StrOffset) -> TextRead
+// The name at an offset of the string table. None where `text_at` has none, and where the string is not UTF-8.
+pub fn name_at(file: &[u8], table: StrTable, offset: StrOffset) -> Option<Text>
     ensures { result ≡ name_at file.now table offset }
 {
-    let place = table.place;
-    let size = table.size;
     let at = offset.0 as usize;
-    let strings = part(file, place, size);
-    match name_in(strings, at) {
-        Len::Spans(len) => {
-            let begin = place + at;
-            TextRead::Is(Text { place: begin, len })
-        }
-        Len::Nothing => TextRead::Unread,
-    }
+    let strings = part(file, table.place, table.size);
+    let len = name_in(strings, at)?;
+    let begin = table.place + at;
+    Some(Text { place: begin, len })
 }
 
 // That part of the lent file itself, or an empty part where place and length don't fit.
 pub fn text(file: &[u8], t: Text) -> &[u8]
     ensures { result.now ≡ part_of file.now t.place t.len }
 {
-    let place = t.place;
-    let len = t.len;
-    part(file, place, len)
+    part(file, t.place, t.len)
 }
 
 // The `len` bytes of the file from `place` on, or none where they don't fit.
 fn part(file: &[u8], place: usize, len: usize) -> &[u8]
     ensures { result.now ≡ part_of file.now place len }
 {
-    if place <= file.len() {
-        if len <= file.len() - place {
-            &file[place..place + len]
-        } else {
-            &file[..0]
-        }
+    if place <= file.len() && len <= file.len() - place {
+        &file[place..place + len]
     } else {
         &file[..0]
     }
 }
 
 // The length of the string at an offset of the table's bytes.
-fn text_in(strings: &[u8], at: usize) -> Len
+fn text_in(strings: &[u8], at: usize) -> Option<usize>
     ensures { result ≡ text_in strings.now at }
 {
     if strings.len() <= at {
-        return Len::Nothing;
+        return None;
     }
     let end = run_end(strings, at, 0xff);
     if strings.len() <= end {
-        return Len::Nothing;
+        return None;
     }
-    let len = end - at;
-    Len::Spans(len)
+    Some(end - at)
 }
 
 // The length of the name at an offset of the table's bytes. One pass looks for the zero byte and judges UTF-8: no
 // character but the zero byte itself has a zero byte in it.
-fn name_in(strings: &[u8], at: usize) -> Len
+fn name_in(strings: &[u8], at: usize) -> Option<usize>
     ensures { result ≡ name_in strings.now at }
 {
     let mut i = at;
     while i < strings.len() {
         let j = ascii_end(strings, i);
         if strings.len() <= j {
-            return Len::Nothing;
+            return None;
         }
         if strings[j] == 0 {
-            let len = j - at;
-            return Len::Spans(len);
+            return Some(j - at);
         }
         let n = char_len(strings, j);
         if n == 0 {
-            return Len::Nothing;
+            return None;
         }
         i = j + n;
     }
-    Len::Nothing
+    None
 }

@@ -51,7 +51,7 @@ fn four_in(s: &[u8], at: usize) -> u8
 fn one_in(b: u8) -> u8
     ensures { (result ≡ pick (within (range 1 0x7f) b) 1 0) × (result ≤ 1) }
 {
-    if is_between(1, 0x7f, b) { 1 } else { 0 }
+    is_between(1, 0x7f, b) as u8
 }
 
 // The first place from `at` on whose byte is not one from 1 to `top`, or the end. Its callers start inside the slice.
@@ -100,5 +100,5 @@ fn last_run_end(s: &[u8], at: usize, top: u8) -> usize
 pub(crate) fn is_between(low: u8, high: u8, b: u8) -> bool
     ensures { result ≡ within (range low high) b }
 {
-    if low <= b { b <= high } else { false }
+    low <= b && b <= high
 }

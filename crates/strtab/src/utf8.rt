@@ -62,19 +62,13 @@ pub(crate) fn char_len(s: &[u8], at: usize) -> usize
 fn is_second(first: u8, b: u8) -> bool
     ensures { result ≡ within (second first) b }
 {
-    if first == 0xe0 {
-        return is_between(0xa0, 0xbf, b);
+    match first {
+        0xe0 => is_between(0xa0, 0xbf, b),
+        0xed => is_between(0x80, 0x9f, b),
+        0xf0 => is_between(0x90, 0xbf, b),
+        0xf4 => is_between(0x80, 0x8f, b),
+        _ => is_tail(b),
     }
-    if first == 0xed {
-        return is_between(0x80, 0x9f, b);
-    }
-    if first == 0xf0 {
-        return is_between(0x90, 0xbf, b);
-    }
-    if first == 0xf4 {
-        return is_between(0x80, 0x8f, b);
-    }
-    is_tail(b)
 }
 
 // Whether a byte may stand third or fourth.

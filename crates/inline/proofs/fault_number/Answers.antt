@@ -1,12 +1,12 @@
 -- `inline::fault_number` meets its contract: each fault has its number.
 -- Assumes nothing.
-use mathlib.Core.Path.{sym, ap, ◌∙◌}
+use mathlib.Core.Path.{sym, ap}
 use Rattle.inline.specs.Block.{fault_no}
 use Rattle.inline.proofs.fault_number.Goals as goal
 
 pub returns-in-Unread : goal.returns-in-Unread
 unfolding fault_no
-returns-in-Unread c = c.node_number.ensures ∙ ap fault_no (sym c.in-Unread.is)
+returns-in-Unread c = ap fault_no (sym c.in-Unread.is)
 
 pub returns-in-Sum : goal.returns-in-Sum
 unfolding fault_no

@@ -8,7 +8,6 @@ pub returns : goal.returns
 returns c =
     looks-plain _ _ _ _
     (elim c.else-options.branch [
-      | else-options-via-then-options+else-options-2 w ↦ (λ t. w.if-options-2.false)
-      | else-options-via-else-options w ↦ (λ t. not-both _ _ w.if-options.false t)
-    ])
-    _ c.lookup_plain.ensures
+      | else-options-via-then-options+else-options-2 w ↦ λ t. w.if-options-2.false
+      | else-options-via-else-options w ↦ λ t. not-both _ _ w.if-options.false t
+    ]) _ c.lookup_plain.ensures

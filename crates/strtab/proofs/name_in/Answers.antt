@@ -1,10 +1,6 @@
 -- `strtab::name_in` meets its contract. The invariant: the bytes from `at` to `i` are passed, the name goes on at `i`.
 -- Assumes nothing.
-use Prim.Native.Nat.{ℕ, ◌+◌}
-use mathlib.Core.List.{List, []}
-use mathlib.Core.Path.{◌≡◌}
-use lib.ListN.{drop}
-use native.Mathlib.Omega.{arith}
+use Rattle.std.proofs.Common.{ℕ, ◌+◌, List, [], ◌≡◌, drop, arith}
 use Rattle.strtab.specs.Utf8.{range}
 use Rattle.strtab.specs.Steps.{run_len}
 use Rattle.strtab.specs.Strings.{name_in}

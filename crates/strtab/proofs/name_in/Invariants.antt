@@ -1,8 +1,6 @@
 -- `strtab::name_in`: the loop's invariant says that the bytes from `at` to `i` are passed, and the name goes on at `i`.
 -- Assumes nothing.
-use Prim.Native.Nat.{◌-◌}
-use mathlib.Core.List.{[]}
-use lib.ListN.{length}
+use Rattle.std.proofs.Common.{◌-◌, [], length}
 use Rattle.strtab.specs.Strings.{name_in}
 use Rattle.strtab.proofs.Passing.{Passed}
 use Rattle.strtab.proofs.Names.{named}

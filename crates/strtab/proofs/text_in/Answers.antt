@@ -1,6 +1,6 @@
 -- `strtab::text_in` meets its contract: the bytes that are not zero are passed, and a zero byte or nothing follows.
 -- Assumes nothing.
-use native.Mathlib.Omega.{arith}
+use Rattle.std.proofs.Common.{arith}
 use Rattle.strtab.proofs.Runs.{text-outside, text-endless, text-ended}
 use Rattle.strtab.proofs.text_in.Goals as goal
 

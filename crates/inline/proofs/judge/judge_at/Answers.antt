@@ -2,30 +2,25 @@
 -- Assumes nothing.
 use Rattle.inline.proofs.Heads.{raw-cut, raw-end, raw-node}
 use Rattle.inline.proofs.Numbers.{num-next}
-use Rattle.inline.proofs.Judging.{judge-cut, judge-end, judge-deep, judge-bad, judge-tail-is}
+use Rattle.inline.proofs.Judging.{judge-cut, judge-end, judge-bad, judge-node}
 use Rattle.inline.proofs.judge.judge_at.Goals as goal
 
 pub returns-then-count-eq0 : goal.returns-then-count-eq0
 returns-then-count-eq0 c =
-    judge-end _ _ _ _ (raw-end _ _ _ c.number_at.ensures _ _ c.in-Value.is c.if-count-eq0.true)
+    judge-end _ _ _ _ (raw-end _ _ _ c.unsigned_at.ensures _ _ c.in-Ok.is c.if-count-eq0.true)
 
-pub returns-then-ctx-gt-MAX_LEVEL : goal.returns-then-ctx-gt-MAX_LEVEL
-returns-then-ctx-gt-MAX_LEVEL c =
-    judge-deep _ _ _ _ _ (raw-node _ _ _ c.number_at.ensures _ _ c.in-Value.is c.if-count-eq0.false)
-    c.if-ctx-gt-MAX_LEVEL.true
+pub judge_node-requires : goal.judge_node-requires
+judge_node-requires c = (num-next _ _ _ c.unsigned_at.ensures _ _ c.in-Ok.is).1
 
-pub ranges-requires : goal.ranges-requires
-ranges-requires c = (num-next _ _ _ c.number_at.ensures _ _ c.in-Value.is).1
+pub returns-in-Err : goal.returns-in-Err
+returns-in-Err c = judge-cut _ _ _ _ (raw-cut _ _ _ c.unsigned_at.ensures _ c.in-Err.is)
 
-pub returns-in-Bad : goal.returns-in-Bad
-returns-in-Bad c = judge-cut _ _ _ _ (raw-cut _ _ _ c.number_at.ensures _ c.in-Bad.is)
+pub returns-in-Err-judge_node : goal.returns-in-Err-judge_node
+returns-in-Err-judge_node c =
+    judge-bad _ _ _ _ _ (raw-node _ _ _ c.unsigned_at.ensures _ _ c.in-Ok.is c.if-count-eq0.false) _
+    c.judge_node.ensures _ c.in-Err-judge_node.is
 
-pub returns-in-Bad-ranges : goal.returns-in-Bad-ranges
-returns-in-Bad-ranges c =
-    judge-bad _ _ _ _ _ (raw-node _ _ _ c.number_at.ensures _ _ c.in-Value.is c.if-count-eq0.false)
-    c.if-ctx-gt-MAX_LEVEL.false _ c.ranges-in-Value.ensures _ c.in-Bad-ranges.is
-
-pub returns-in-At : goal.returns-in-At
-returns-in-At c =
-    judge-tail-is _ _ _ _ _ (raw-node _ _ _ c.number_at.ensures _ _ c.in-Value.is c.if-count-eq0.false)
-    c.if-ctx-gt-MAX_LEVEL.false _ c.ranges-in-Value.ensures _ _ _ c.in-At.is _ c.judge_tail.ensures
+pub returns-in-Ok-judge_node : goal.returns-in-Ok-judge_node
+returns-in-Ok-judge_node c =
+    judge-node _ _ _ _ _ (raw-node _ _ _ c.unsigned_at.ensures _ _ c.in-Ok.is c.if-count-eq0.false) _
+    c.judge_node.ensures _ c.in-Ok-judge_node.is

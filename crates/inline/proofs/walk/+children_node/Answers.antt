@@ -2,6 +2,7 @@
 -- children is one of the definition, and the loop goes over the nodes with what is left of their list (`LeftW`).
 -- Assumes nothing.
 use Rattle.std.proofs.Common.{subst, arith}
+use Rattle.std.proofs.lemmas.Bool.{not-true, not-false}
 use Rattle.inline.proofs.Walks.{
   walked_end,
   walked-bad,
@@ -47,49 +48,49 @@ children-returns-in-Bad t c = record {
   says = λ f lt. left-bad _ _ _ _ _ _ _ c.node.ensures _ (c.loop-n.invariant.3 f lt) _ c.in-Bad.is;
 }
 
-pub node-returns-then-kids-eq0 : goal.node-returns-then-kids-eq0
-node-returns-then-kids-eq0 t c =
-    walked-leaf _ _ _ _ _ _ c.judge_at.ensures _ c.in-Node.is c.if-i.true _ _ c.push.ensures _ c.in-Now.is
-    c.if-kids-eq0.true
-
-pub node-overflow_add-level : goal.node-overflow_add-level
-node-overflow_add-level t c = omega (arith, (seen_next _ _ _ _ c.judge_at.ensures _ c.in-Node.is).2)
-
-pub node-children-requires : goal.node-children-requires
-node-children-requires t c =
-    let b = seen_next _ _ _ _ c.judge_at.ensures _ c.in-Node.is in (
-      omega (arith, b.0, b.1),
-      (held-room _ _ _ _ _ _ c.judge_at.ensures _ c.in-Node.is c.if-i.true _ _ c.push.ensures _ c.in-Now.is, omega arith),
-    )
-
-pub node-returns-then-kids-eq0-2 : goal.node-returns-then-kids-eq0-2
-node-returns-then-kids-eq0-2 t c =
-    walked-shut-leaf _ _ _ _ _ _ c.judge_at.ensures _ c.in-Node.is c.if-i.false (omega arith) c.if-kids-eq0-2.true
-
-pub node-overflow_add-ctx : goal.node-overflow_add-ctx
-node-overflow_add-ctx t c = omega (arith, (seen_next _ _ _ _ c.judge_at.ensures _ c.in-Node.is).2)
-
 pub node-returns-in-End : goal.node-returns-in-End
 node-returns-in-End t c = walked_end _ _ _ _ _ _ c.judge_at.ensures _ c.in-End.is (omega arith)
 
 pub node-returns-in-Bad : goal.node-returns-in-Bad
 node-returns-in-Bad t c = walked-bad _ _ _ _ _ _ c.judge_at.ensures _ _ c.in-Bad.is
 
-pub node-returns-in-Full : goal.node-returns-in-Full
-node-returns-in-Full t c =
-    walked-full _ _ _ _ _ _ c.judge_at.ensures _ c.in-Node.is c.if-i.true _ _ c.push.ensures c.in-Full.is
+pub node-overflow_add-ctx : goal.node-overflow_add-ctx
+node-overflow_add-ctx t c = omega (arith, (seen_next _ _ _ _ c.judge_at.ensures _ c.in-Node.is).2)
 
-pub node-returns-else-kids-eq0 : goal.node-returns-else-kids-eq0
-node-returns-else-kids-eq0 t c =
-    walked-kids _ _ _ _ _ _ c.judge_at.ensures _ c.in-Node.is c.if-i.true _ _ c.push.ensures _ c.in-Now.is
-    c.if-kids-eq0.false _ _ c.children.ensures
+pub node-returns-then-i-eq0 : goal.node-returns-then-i-eq0
+node-returns-then-i-eq0 t c =
+    walked-shut-leaf _ _ _ _ _ _ c.judge_at.ensures _ c.in-Node.is (not-true _ c.if-not-i.true) (omega arith) c.if-i-eq0.true
 
-pub node-returns-in-At : goal.node-returns-in-At
-node-returns-in-At t c =
-    walked-shut _ _ _ _ _ _ c.judge_at.ensures _ c.in-Node.is c.if-i.false (omega arith) c.if-kids-eq0-2.false _
-    c.skip_all.ensures _ c.in-At.is
+pub node-returns-in-Ok : goal.node-returns-in-Ok
+node-returns-in-Ok t c =
+    walked-shut _ _ _ _ _ _ c.judge_at.ensures _ c.in-Node.is (not-true _ c.if-not-i.true) (omega arith) c.if-i-eq0.false _
+    c.skip_all.ensures _ c.in-Ok.is
 
-pub node-returns-in-Bad-skip_all : goal.node-returns-in-Bad-skip_all
-node-returns-in-Bad-skip_all t c =
-    walked-shut-bad _ _ _ _ _ _ c.judge_at.ensures _ c.in-Node.is c.if-i.false (omega arith) c.if-kids-eq0-2.false _
-    c.skip_all.ensures _ c.in-Bad-skip_all.is
+pub node-returns-in-Err : goal.node-returns-in-Err
+node-returns-in-Err t c =
+    walked-shut-bad _ _ _ _ _ _ c.judge_at.ensures _ c.in-Node.is (not-true _ c.if-not-i.true) (omega arith) c.if-i-eq0.false _
+    c.skip_all.ensures _ c.in-Err.is
+
+pub node-returns-in_default : goal.node-returns-in_default
+node-returns-in_default t c =
+    walked-full _ _ _ _ _ _ c.judge_at.ensures _ c.in-Node.is (not-false _ c.if-not-i.false) _ _ c.push.ensures c.in_default.is
+
+pub node-returns-then-i-eq0-2 : goal.node-returns-then-i-eq0-2
+node-returns-then-i-eq0-2 t c =
+    walked-leaf _ _ _ _ _ _ c.judge_at.ensures _ c.in-Node.is (not-false _ c.if-not-i.false) _ _ c.push.ensures _ c.in-Some.is
+    c.if-i-eq0-2.true
+
+pub node-overflow_add-down : goal.node-overflow_add-down
+node-overflow_add-down t c = omega (arith, (seen_next _ _ _ _ c.judge_at.ensures _ c.in-Node.is).2)
+
+pub node-children-requires : goal.node-children-requires
+node-children-requires t c =
+    let b = seen_next _ _ _ _ c.judge_at.ensures _ c.in-Node.is in (
+      omega (arith, b.0, b.1),
+      (held-room _ _ _ _ _ _ c.judge_at.ensures _ c.in-Node.is (not-false _ c.if-not-i.false) _ _ c.push.ensures _ c.in-Some.is, omega arith),
+    )
+
+pub node-returns-else-i-eq0-2 : goal.node-returns-else-i-eq0-2
+node-returns-else-i-eq0-2 t c =
+    walked-kids _ _ _ _ _ _ c.judge_at.ensures _ c.in-Node.is (not-false _ c.if-not-i.false) _ _ c.push.ensures _ c.in-Some.is
+    c.if-i-eq0-2.false _ _ c.children.ensures

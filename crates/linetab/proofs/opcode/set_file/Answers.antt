@@ -1,17 +1,13 @@
 -- `linetab::opcode::set_file` meets its contract: the operand is read, or the program stops.
 -- Assumes nothing.
-use Rattle.std.proofs.Common.{sym, ap, ◌∙◌}
+use Rattle.std.proofs.Common.{rules}
 use Rattle.linetab.specs.Machine.{set_file}
 use Rattle.linetab.proofs.opcode.set_file.Goals as goal
 
-pub returns-in-Value : goal.returns-in-Value
+pub returns-in_default : goal.returns-in_default
 unfolding set_file
-returns-in-Value c = ap (set_file c.args.row) (sym c.in-Value.is ∙ c.unsigned_at.ensures)
+returns-in_default c = search rules
 
-pub returns-in-Short : goal.returns-in-Short
+pub returns : goal.returns
 unfolding set_file
-returns-in-Short c = ap (set_file c.args.row) (sym c.in-Short.is ∙ c.unsigned_at.ensures)
-
-pub returns-in-Wide : goal.returns-in-Wide
-unfolding set_file
-returns-in-Wide c = ap (set_file c.args.row) (sym c.in-Wide.is ∙ c.unsigned_at.ensures)
+returns c = search rules

@@ -1,10 +1,12 @@
 -- `linetab::quick::line_to` meets its contract: opcode 3 is there and its operand is read, or it is not.
 -- Assumes nothing.
 use Rattle.std.proofs.Common.{sym, ◌∙◌}
-use Rattle.linetab.proofs.Quickly.{line-moved}
+use Rattle.linetab.proofs.Opcodes.{is-line}
+use Rattle.linetab.proofs.Quickly.{step_kept}
 use Rattle.linetab.proofs.quick.line_to.Goals as goal
 
-pub returns-in-Value : goal.returns-in-Value
-returns-in-Value c =
-    line-moved _ _ c.requires _ _ _ _ c.if-op-ne-ADVANCE_LINE.false (sym c.in-Value.is ∙ c.signed_at.ensures)
-    c.add_to_u32-on.ensures
+pub returns-in-Ok : goal.returns-in-Ok
+returns-in-Ok c =
+    step_kept _ _ c.in-Ok.moved
+    (λ h. sym (is-line h _ c.args.state c.requires c.if-ops-state-ne-ADVANCE_LINE.false)
+    ∙ sym c.advance_line.ensures ∙ c.in-Ok.is)

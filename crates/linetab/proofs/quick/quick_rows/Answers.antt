@@ -3,5 +3,5 @@
 use Rattle.linetab.proofs.Quickly.{at-start}
 use Rattle.linetab.proofs.quick.quick_rows.Goals as goal
 
-pub loop-a-init : goal.loop-a-init
-loop-a-init c = at-start _ _ _ _
+pub loop-made-init : goal.loop-made-init
+loop-made-init c = at-start _ _ _ _

@@ -5,10 +5,9 @@ use Rattle.linetab.proofs.Quickly.{over-is, special-made}
 use Rattle.linetab.proofs.quick.special_row.Goals as goal
 
 pub overflow_sub-over : goal.overflow_sub-over
-overflow_sub-over c = (over-is _ _ c.requires.2 (get_or c.args.ops.now c.args.at 0 - 4) (omega arith)).0
+overflow_sub-over c = (over-is _ _ c.requires.2 (get_or c.args.ops.now c.args.state.at 0 - 4) (omega arith)).0
 
 pub returns : goal.returns
 returns c =
-    special-made _ _ c.requires.2 _ c.args.at c.args.addr _ c.args.line _ _ c.requires.0 c.requires.1 (omega arith)
-    c.wrapping_add_u64-to.ensures.value
-    refl
+    special-made _ _ c.requires.2 _ c.args.state.at c.args.state.row.addr.0 _ c.args.state.row.file_line.0 _ _
+    c.requires.0 c.requires.1 (omega arith) refl refl

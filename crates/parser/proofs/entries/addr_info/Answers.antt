@@ -5,21 +5,19 @@ use Rattle.parser.specs.Entries.{on_offset}
 use Rattle.parser.proofs.Said.{info-none, info-there}
 use Rattle.parser.proofs.entries.addr_info.Goals as goal
 
-pub returns-then-count-i : goal.returns-then-count-i
-returns-then-count-i c = info-none _ c.args.tables _ c.if-count-i.true
+pub returns-then-tables-i : goal.returns-then-tables-i
+returns-then-tables-i c = info-none _ c.args.tables _ c.if-tables-i.true
 
-pub returns-in-Value : goal.returns-in-Value
+pub returns-in_err-offset : goal.returns-in_err-offset
 unfolding on_offset
-returns-in-Value c =
-    c.info_in.ensures ∙ info-there _
-    c.args.tables _ _ _
-    c.if-count-i.false
-    c.from_place-offsets.ensures
-    (sym c.in-Value.is ∙ c.u32_at.ensures)
+returns-in_err-offset c =
+    c.from_residual.ensures
+    ∙ info-there _ c.args.tables _ _ _ c.if-tables-i.false c.from_place-offsets.ensures
+    (sym c.in_err-offset.was ∙ c.u32_at.ensures)
 
-pub returns-in-Unread : goal.returns-in-Unread
+pub returns : goal.returns
 unfolding on_offset
-returns-in-Unread c =
-    info-there _ c.args.tables _ _ _
-    c.if-count-i.false c.from_place-offsets.ensures
-    (sym c.in-Unread.is ∙ c.u32_at.ensures)
+returns c =
+    c.info_in.ensures
+    ∙ info-there _ c.args.tables _ _ _ c.if-tables-i.false c.from_place-offsets.ensures
+    (sym c.in_ok-offset.was ∙ c.u32_at.ensures)

@@ -5,14 +5,13 @@ use Rattle.parser.specs.Entries.{as_info, info_in}
 use Rattle.parser.proofs.Fields.{pair-within}
 use Rattle.parser.proofs.entries.info_in.Goals as goal
 
-pub overflow_add-items : goal.overflow_add-items
-overflow_add-items c =
-    omega (arith, pair-within _ _ _ _ (sym c.in-Is.is ∙ c.pair_at.ensures))
-
-pub returns-in-Is : goal.returns-in-Is
+pub returns-in_err-size : goal.returns-in_err-size
 unfolding info_in
-returns-in-Is c = ap (as_info _) (sym c.in-Is.is ∙ c.pair_at.ensures)
+returns-in_err-size c = c.from_residual.ensures ∙ ap (as_info _) (sym c.in_err-size.was ∙ c.pair_at.ensures)
 
-pub returns-in-Unread : goal.returns-in-Unread
+pub overflow_add-result : goal.overflow_add-result
+overflow_add-result c = omega (arith, pair-within _ _ _ _ (sym c.in_ok-size.was ∙ c.pair_at.ensures))
+
+pub returns : goal.returns
 unfolding info_in
-returns-in-Unread c = ap (as_info _) (sym c.in-Unread.is ∙ c.pair_at.ensures)
+returns c = ap (as_info _) (sym c.in_ok-size.was ∙ c.pair_at.ensures)

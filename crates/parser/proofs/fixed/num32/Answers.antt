@@ -1,15 +1,11 @@
--- `parser::fixed::num32` meets its contract: the number's own bytes read as the number.
+-- `parser::fixed::num32` meets its contract: the bytes that std puts together are the number's own.
 -- Assumes nothing.
-use Rattle.std.proofs.Common.{sym, ◌∙◌}
-use Rattle.parser.proofs.Fields.{is32, not32}
+use Rattle.std.proofs.Common.{◌∙◌, add-zero}
+use Rattle.reads.proofs.Window.{le-four}
+use Rattle.parser.proofs.Fields.{num-is}
 use Rattle.parser.proofs.fixed.num32.Goals as goal
 
-pub returns-in-Value : goal.returns-in-Value
-returns-in-Value c =
-    is32 _ _ c.requires _
-    (sym c.in-Value.is ∙ c.u32_at.ensures)
-
-pub returns-in-Unread : goal.returns-in-Unread
-returns-in-Unread c =
-    not32 _ _ c.requires
-    (sym c.in-Unread.is ∙ c.u32_at.ensures)
+pub returns : goal.returns
+returns c =
+    let e = num-is c.args.s.now c.args.at 4 c.requires in
+    c.from_le_bytes.ensures ∙ le-four _ _ _ _ ∙ rw add-zero at e

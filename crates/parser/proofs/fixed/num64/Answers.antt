@@ -1,15 +1,11 @@
--- `parser::fixed::num64` meets its contract: the number's own bytes read as the number.
+-- `parser::fixed::num64` meets its contract: the bytes that std puts together are the number's own.
 -- Assumes nothing.
-use Rattle.std.proofs.Common.{sym, ◌∙◌}
-use Rattle.parser.proofs.Fields.{is64, not64}
+use Rattle.std.proofs.Common.{◌∙◌, add-zero}
+use Rattle.reads.proofs.Window.{le-eight}
+use Rattle.parser.proofs.Fields.{num-is}
 use Rattle.parser.proofs.fixed.num64.Goals as goal
 
-pub returns-in-Value : goal.returns-in-Value
-returns-in-Value c =
-    is64 _ _ c.requires _
-    (sym c.in-Value.is ∙ c.u64_at.ensures)
-
-pub returns-in-Unread : goal.returns-in-Unread
-returns-in-Unread c =
-    not64 _ _ c.requires
-    (sym c.in-Unread.is ∙ c.u64_at.ensures)
+pub returns : goal.returns
+returns c =
+    let e = num-is c.args.s.now c.args.at 8 c.requires in
+    c.from_le_bytes.ensures ∙ le-eight _ _ _ _ _ _ _ _ ∙ rw add-zero at e

@@ -1,15 +1,13 @@
--- `parser::fixed::num8` meets its contract: the number's own bytes read as the number.
+-- `parser::fixed::num8` meets its contract: one byte says itself.
 -- Assumes nothing.
-use Rattle.std.proofs.Common.{sym, ◌∙◌}
-use Rattle.parser.proofs.Fields.{is8, not8}
+use Rattle.std.proofs.Common.{◌≡◌, ◌+◌, get_or, ap, arith}
+use Rattle.reads.specs.Bytes.{le}
+use Rattle.parser.proofs.Fields.{num-is}
 use Rattle.parser.proofs.fixed.num8.Goals as goal
 
-pub returns-in-Value : goal.returns-in-Value
-returns-in-Value c =
-    is8 _ _ c.requires _
-    (sym c.in-Value.is ∙ c.u8_at.ensures)
-
-pub returns-in-Unread : goal.returns-in-Unread
-returns-in-Unread c =
-    not8 _ _ c.requires
-    (sym c.in-Unread.is ∙ c.u8_at.ensures)
+pub returns : goal.returns
+unfolding le
+returns c =
+    let e = num-is c.args.s.now c.args.at 1 c.requires in
+    let at : c.args.at + 0 ≡ c.args.at = omega arith in
+    omega (arith, e, ap (λ k. get_or c.args.s.now k 0) at)

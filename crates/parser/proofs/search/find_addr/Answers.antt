@@ -5,10 +5,10 @@ use Rattle.parser.proofs.Table.{len-width, len-room}
 use Rattle.parser.proofs.Turns.{base_above, from-base}
 use Rattle.parser.proofs.search.find_addr.Goals as goal
 
-pub returns-then-addr-base : goal.returns-then-addr-base
-returns-then-addr-base c =
+pub returns-then-addr-tables : goal.returns-then-addr-tables
+returns-then-addr-tables c =
     base_above _ c.args.tables
-    c.args.addr c.if-addr-base.true
+    c.args.addr c.if-addr-tables.true
 
 pub halve-requires : goal.halve-requires
 halve-requires c =
@@ -24,5 +24,5 @@ returns c =
     c.halve.ensures ∙ from-base _
     c.args.tables
     c.args.addr _ _
-    c.if-addr-base.false c.table_len-n.ensures
+    c.if-addr-tables.false c.table_len-n.ensures
     c.from_place-table.ensures

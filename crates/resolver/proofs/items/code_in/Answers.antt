@@ -2,6 +2,7 @@
 -- item's next place is past it.
 -- Assumes nothing.
 use Rattle.std.proofs.Common.{arith}
+use Rattle.std.proofs.lemmas.Result.{err_from_is_err_and}
 use Rattle.resolver.proofs.Turns.{
   sofar-start,
   sofar-line,
@@ -12,8 +13,7 @@ use Rattle.resolver.proofs.Turns.{
   item_on,
   hears-unread,
   hears-fault,
-  hears-closed,
-  hears-torn,
+  hears-ended,
 }
 use Rattle.resolver.proofs.items.code_in.Goals as goal
 use Rattle.resolver.proofs.items.code_in.Goals.{else-kind-eq-INLINE_INFO-via-then-kind-eq-INLINE_INFO+else-count-eq0, else-kind-eq-INLINE_INFO-via-else-kind-eq-INLINE_INFO}
@@ -27,10 +27,12 @@ overflow_add-place c = omega (arith, item_in _ _ _ c.item_at.ensures _ _ _ _ c.i
 pub slice_bounds-hear_line-end : goal.slice_bounds-hear_line-end
 slice_bounds-hear_line-end c = omega (arith, item_in _ _ _ c.item_at.ensures _ _ _ _ c.in-Is.is)
 
-pub returns-in-Unread : goal.returns-in-Unread
-returns-in-Unread c =
-    hears-unread _ _ _ _ _ _ _ _ _ c.loop-kind.invariant _ c.item_at.ensures _ _ _ _ c.in-Is.is
-    c.if-kind-eq-LINE_TABLE.true _ c.hear_line.ensures c.in-Unread.is
+pub returns-in_err-row : goal.returns-in_err-row
+returns-in_err-row c =
+    let p = err_from_is_err_and c.from_residual.result c.from_residual.ensures.1 in
+    rw (p.1, p.2)
+    (hears-unread _ _ _ _ _ _ _ _ _ c.loop-kind.invariant _ c.item_at.ensures _ _ _ _ c.in-Is.is
+    c.if-kind-eq-LINE_TABLE.true _ c.hear_line.ensures _ c.in_err-row.was)
 
 pub overflow_add-place-then-count-eq0 : goal.overflow_add-place-then-count-eq0
 overflow_add-place-then-count-eq0 c = omega (arith, item_in _ _ _ c.item_at.ensures _ _ _ _ c.in-Is.is)
@@ -43,13 +45,13 @@ returns-then-listed-ne-FOUND c =
     hears-fault _ _ _ _ _ _ _ _ _ c.loop-kind.invariant _ c.item_at.ensures _ _ _ _ c.in-Is.is
     c.if-kind-eq-INLINE_INFO.true c.if-count-eq0.true _ _ c.block_in-listed.ensures c.if-listed-ne-FOUND.true
 
-pub loop-kind-smaller-in-Is-hear_line : goal.loop-kind-smaller-in-Is-hear_line
-loop-kind-smaller-in-Is-hear_line c = item_on _ _ _ c.item_at.ensures _ _ _ _ c.in-Is.is
+pub loop-kind-smaller-in_ok-row : goal.loop-kind-smaller-in_ok-row
+loop-kind-smaller-in_ok-row c = item_on _ _ _ c.item_at.ensures _ _ _ _ c.in-Is.is
 
-pub loop-kind-preserved-in-Is-hear_line : goal.loop-kind-preserved-in-Is-hear_line
-loop-kind-preserved-in-Is-hear_line c =
+pub loop-kind-preserved-in_ok-row : goal.loop-kind-preserved-in_ok-row
+loop-kind-preserved-in_ok-row c =
     sofar-line _ _ _ _ _ _ _ _ _ c.loop-kind.invariant _ c.item_at.ensures _ _ _ _ c.in-Is.is
-    c.if-kind-eq-LINE_TABLE.true _ c.hear_line.ensures _ c.in-Is-hear_line.is
+    c.if-kind-eq-LINE_TABLE.true _ c.hear_line.ensures _ c.in_ok-row.was
 
 pub loop-kind-smaller-else-listed-ne-FOUND : goal.loop-kind-smaller-else-listed-ne-FOUND
 loop-kind-smaller-else-listed-ne-FOUND c = item_on _ _ _ c.item_at.ensures _ _ _ _ c.in-Is.is
@@ -73,8 +75,5 @@ loop-kind-preserved c =
           c.if-kind-eq-LINE_TABLE.false w.if-kind-eq-INLINE_INFO.false
     ]
 
-pub returns-in-Closed : goal.returns-in-Closed
-returns-in-Closed c = hears-closed _ _ _ _ _ _ _ _ _ c.loop-kind.invariant _ c.item_at.ensures c.in-Closed.is
-
-pub returns-in-Torn : goal.returns-in-Torn
-returns-in-Torn c = hears-torn _ _ _ _ _ _ _ _ _ c.loop-kind.invariant _ c.item_at.ensures c.in-Torn.is
+pub returns : goal.returns
+returns c = hears-ended _ _ _ _ _ _ _ _ _ c.loop-kind.invariant _ c.item_at.ensures c.in_default.not-Is

@@ -1,6 +1,4 @@
-use Prim.Native.Nat.{◌-◌}
-use mathlib.Core.Path.{◌≡◌}
-use lib.ListN.{length}
+use Rattle.std.proofs.Common.{◌≡◌, ◌-◌, length}
 use Rattle.resolver.specs.Data.{items_at}
 use Rattle.resolver.specs.Stages.{row_in}
 use Rattle.resolver.proofs.rows.row_in.Given as goal

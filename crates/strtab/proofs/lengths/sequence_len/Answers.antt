@@ -1,11 +1,6 @@
 -- `strtab::lengths::sequence_len` meets its contract: the rule is a test at each of 256 entries, which antt computes.
 -- Assumes nothing.
-use mathlib.Core.List.{List, ◌++◌}
-use mathlib.Core.Bool.{Bool}
-use Prim.Native.Nat.{ℕ}
-use lib.Dec.{eqb, eqb→eq}
-use lib.ListN.{get_or, replicate}
-use borrow.Author.Rules.{rules}
+use Rattle.std.proofs.Common.{List, ◌++◌, Bool, ℕ, eqb, eqb→eq, get_or, replicate, rules}
 use Rattle.strtab.specs.Utf8.{sequence_len}
 use Rattle.strtab.proofs.Table.{at}
 use Rattle.strtab.proofs.lengths.sequence_len.Goals as goal

@@ -1,6 +1,6 @@
 -- `strtab::scan::ascii_end` meets its contract: the bytes from `at` to `i` lie in the range, sixteen more at each turn.
 -- Assumes nothing.
-use native.Mathlib.Omega.{arith}
+use Rattle.std.proofs.Common.{arith}
 use Rattle.strtab.proofs.Counting.{skip-counted}
 use Rattle.strtab.proofs.scan.ascii_end.Goals as goal
 

@@ -1,7 +1,6 @@
 -- `strtab::scan::ascii_end`: the loop's invariant says that the bytes from `at` to `i` are from 1 to 7f.
 -- Assumes nothing.
-use Prim.Native.Nat.{◌-◌}
-use lib.ListN.{length}
+use Rattle.std.proofs.Common.{◌-◌, length}
 use Rattle.strtab.specs.Utf8.{range}
 use Rattle.strtab.proofs.Runs.{Skipped}
 use Rattle.strtab.proofs.scan.ascii_end.Given as goal

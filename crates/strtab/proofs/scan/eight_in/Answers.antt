@@ -1,6 +1,6 @@
 -- `strtab::scan::eight_in` meets its contract: both halves.
 -- Assumes nothing.
-use native.Mathlib.Omega.{arith}
+use Rattle.std.proofs.Common.{arith}
 use Rattle.strtab.proofs.Counting.{counted-le, halves-counted}
 use Rattle.strtab.proofs.scan.eight_in.Goals as goal
 

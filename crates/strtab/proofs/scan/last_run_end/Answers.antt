@@ -1,6 +1,6 @@
 -- `strtab::scan::last_run_end` meets its contract. The invariant: the bytes from `at` to `i` lie in the range.
 -- Assumes nothing.
-use mathlib.Core.Path.{refl, sym, ◌∙◌}
+use Rattle.std.proofs.Common.{refl, sym, ◌∙◌}
 use Rattle.strtab.proofs.Runs.{skip, stop, over}
 use Rattle.strtab.proofs.scan.last_run_end.Goals as goal
 

@@ -1,8 +1,6 @@
 -- `strtab::scan::run_end` meets its contract. The invariant: the bytes from `at` to `i` lie in the range.
 -- Assumes nothing.
-use Prim.Native.Nat.{◌+◌}
-use mathlib.Core.Path.{sym, ◌∙◌}
-use native.Mathlib.Omega.{arith}
+use Rattle.std.proofs.Common.{◌+◌, sym, ◌∙◌, arith}
 use Rattle.strtab.proofs.Runs.{skip, stop}
 use Rattle.strtab.proofs.scan.run_end.Goals as goal
 

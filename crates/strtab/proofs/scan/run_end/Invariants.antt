@@ -1,7 +1,6 @@
 -- `strtab::scan::run_end`: the loop's invariant says that the bytes from `at` to `i` lie in the range.
 -- Assumes nothing.
-use Prim.Native.Nat.{◌-◌}
-use lib.ListN.{length}
+use Rattle.std.proofs.Common.{◌-◌, length}
 use Rattle.strtab.specs.Utf8.{range}
 use Rattle.strtab.proofs.Runs.{Skipped}
 use Rattle.strtab.proofs.scan.run_end.Given as goal

@@ -1,11 +1,6 @@
 -- `strtab::utf8::char_len` meets its contract: each way out is a law of the bytes judged so far (proofs/Chars.antt).
 -- Assumes nothing.
-use Prim.Native.Nat.{ℕ, ◌+◌, ◌-◌, ◌≤◌, ◌<◌}
-use mathlib.Core.Bool.{Bool, true}
-use mathlib.Core.List.{List}
-use lib.ListN.{length, get_or}
-use mathlib.Core.Path.{◌≡◌, sym, ◌∙◌}
-use native.Mathlib.Omega.{arith}
+use Rattle.std.proofs.Common.{ℕ, ◌+◌, ◌-◌, ◌≤◌, ◌<◌, Bool, true, List, length, get_or, ◌≡◌, sym, ◌∙◌, arith}
 use Rattle.strtab.specs.Utf8.{within, tail, sequence_len}
 use Rattle.strtab.specs.Steps.{second}
 use Rattle.strtab.proofs.Chars.{Lead, Twos, Threes, one-is, cut, second-wrong, two-are}

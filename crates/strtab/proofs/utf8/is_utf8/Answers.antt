@@ -1,10 +1,6 @@
 -- `strtab::utf8::is_utf8` meets its contract. The invariant: all of the bytes are UTF-8 where those from `i` on are.
 -- Assumes nothing.
-use Prim.Native.Nat.{ℕ, ◌+◌}
-use mathlib.Core.List.{List}
-use mathlib.Core.Path.{◌≡◌, sym, ◌∙◌}
-use lib.ListN.{drop}
-use native.Mathlib.Omega.{arith}
+use Rattle.std.proofs.Common.{ℕ, ◌+◌, List, ◌≡◌, sym, ◌∙◌, drop, arith}
 use Rattle.strtab.specs.Utf8.{range, utf8}
 use Rattle.strtab.specs.Steps.{run_len}
 use Rattle.strtab.proofs.Chars.{utf8-none, utf8-next, utf8-done, char-fits}

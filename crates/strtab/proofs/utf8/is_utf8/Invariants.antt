@@ -1,8 +1,6 @@
 -- `strtab::utf8::is_utf8`: the loop's invariant says that all of the bytes are UTF-8 where those from `i` on are.
 -- Assumes nothing.
-use Prim.Native.Nat.{◌-◌}
-use mathlib.Core.Path.{◌≡◌}
-use lib.ListN.{length, drop}
+use Rattle.std.proofs.Common.{◌-◌, ◌≡◌, length, drop}
 use Rattle.strtab.specs.Utf8.{utf8}
 use Rattle.strtab.proofs.utf8.is_utf8.Given as goal
 
