@@ -3,7 +3,7 @@
 
 A made-up stock connector: `sync_orders` reads the stock, posts an order and confirms it; the compiler has inlined
 `post_order` and, into that, `send_request`. The name of `log_flush` is torn, so a crash there is refused. What stands where
-in a file is told in docs/FORMAT.md.
+in a file is told in docs/RULES.md.
 """
 import struct
 import sys

@@ -1,4 +1,4 @@
-//! The safe face on the sample file, on torn prefixes of it, and on document 01's marked examples.
+//! The safe face on the sample file, on torn prefixes of it, and on the marked examples of RULES.
 use gsym::{block_frames, lookup, version, Frame, InlineFrame, Options, Refusal, Text};
 
 fn sample() -> Vec<u8> {

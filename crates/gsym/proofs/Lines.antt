@@ -1,14 +1,7 @@
 -- The line of a lookup's record is below 2^32, so that the number in a store is the line itself: it is a row's, or the
 -- call line of a frame.
 -- Assumes nothing.
-use Rattle.std.proofs.Common.{Some, None, Ok, Err, Option, Result}
-use Prim.Native.Nat.{ℕ, ◌<◌, ◌^◌}
-use mathlib.Core.Bool.{Bool, true, false}
-use mathlib.Core.List.{List, [], ◌∷◌, map}
-use mathlib.Core.Path.{◌≡◌, refl, sym, subst}
-use lib.Dec.{eqb}
-use native.Mathlib.Omega.{arith}
-use Rattle.reads.specs.Pick.{pick}
+use Rattle.std.proofs.Common.{Some, None, Ok, Err, Option, Result, ℕ, ◌<◌, ◌^◌, Bool, true, false, List, [], ◌∷◌, map, ◌≡◌, refl, sym, subst, eqb, arith, if◌then◌else◌}
 use Rattle.types.specs.declared.Address.{Address}
 use Rattle.types.specs.declared.Options.{Options}
 use Rattle.types.specs.declared.Frame.{Frame}
@@ -65,7 +58,7 @@ unfolding row_after KnownSmall
 after_small q p (Some r) l = l
 after_small q p None l = go (eqb p.kind 1)
   where
-    go : (t : Bool) → KnownSmall (pick t (as_row (line_row p.bytes q.symbol q.addr)) (row None))
+    go : (t : Bool) → KnownSmall (if t then as_row (line_row p.bytes q.symbol q.addr) else row None)
     go true =
         read_known (line_row p.bytes q.symbol q.addr) (line-row-small p.bytes q.symbol q.addr)
     go false = tt
@@ -94,7 +87,7 @@ site-line b index l s e = go (nth_file b.files index) e
     go (Some r) e = by_tests (reads_text b r.directory.0) (reads_text b r.filename.0) e
       where
         by_tests : (t u : Bool) →
-            pick t (pick u (is (record { dir = r.directory.0; file = r.filename.0; line = l })) (no 8)) (no 8)
+            (if t then if u then is (record { dir = r.directory.0; file = r.filename.0; line = l }) else no 8 else no 8)
             ≡ is s →
             s.line ≡ l
         by_tests true true e = cc
@@ -112,7 +105,7 @@ calls-lined b (f ∷ fs) cs l e =
   where
     go : ((ds : List Call) → calls_of b fs ≡ calls ds → CallsLined ds) → (t : Bool) (k : SiteRead) →
         site_of b f.call_file.0 f.call_line.0 ≡ k → (r : Calls) → calls_of b fs ≡ r →
-        pick t (with_site f.name.0 r k) (no 6) ≡ calls cs → CallsLined cs
+        (if t then with_site f.name.0 r k else no 6) ≡ calls cs → CallsLined cs
     go rest false k h r q e = never (let z : ◌≡◌ {A = ℕ} 0 1 = cc in z)
     go rest true (no m) h r q e = never (let z : ◌≡◌ {A = ℕ} 0 1 = cc in z)
     go rest true (is s) h (no m) q e = never (let z : ◌≡◌ {A = ℕ} 0 1 = cc in z)

@@ -1,4 +1,4 @@
-// What a user names (document 01): lookup, and the frames of a single block, into a list that the caller lends; the
+// What a user names (RULES, "Calls"): lookup, and the frames of a single block, into a list that the caller lends; the
 // part of a file that a string is; and an opened file. All answers are those of `resolver`, `inline` and `strtab`.
 //   blocks    the frames of a block, from numbers to the lent list
 //   lookups   the records of a lookup, from numbers to the lent list

@@ -1,14 +1,8 @@
 -- Records of any width in a list of numbers: the numbers of one, a turn of the loop that copies them, and the records
 -- that numbers come to.
 -- Assumes nothing.
-use Prim.Native.Nat.{ℕ, zero, suc, ◌+◌, ◌*◌, ◌<◌, ◌≤◌}
-use mathlib.Core.List.{List, [], ◌∷◌, ◌++◌, map, head-eq_of_cons-eq, tail-eq_of_cons-eq}
-use mathlib.Core.Path.{◌≡◌, refl, sym, ap, ◌∙◌}
-use lib.ListN.{length, get_or, set, take, drop, length-append, length-set, length-take}
-use lib.Seq.{drop-cons, drop-drop}
-use native.Mathlib.Nat.{zero-add, suc-add, mul-zero, mul-suc}
-use native.Mathlib.Numerals.{add-one}
-use native.Mathlib.Omega.{arith}
+use Rattle.std.proofs.Common.{ℕ, zero, suc, ◌+◌, ◌*◌, ◌<◌, ◌≤◌, List, [], ◌∷◌, ◌++◌, map, ◌≡◌, refl, sym, ap, ◌∙◌, length, get_or, set, take, drop, length-append, length-set, length-take, drop-cons, drop-drop, zero-add, suc-add, mul-zero, mul-suc, add-one, arith}
+use mathlib.Core.List.{head-eq_of_cons-eq, tail-eq_of_cons-eq}
 use Rattle.gsym_c.specs.Copied.{rows_to, row_in}
 
 -- ---- the numbers of one record

@@ -1,11 +1,7 @@
 -- A block's frames in a list of numbers, and their copy in a lent list of records.
 -- Assumes nothing.
-use Prim.Native.Nat.{ℕ, ◌*◌, ◌≤◌, min}
-use mathlib.Core.List.{List, [], ◌∷◌, ◌++◌}
-use mathlib.Core.Path.{◌≡◌, refl, sym, ap, ◌∙◌}
-use lib.ListN.{length, take, drop, replicate, length-take}
+use Rattle.std.proofs.Common.{ℕ, ◌*◌, ◌≤◌, min, List, [], ◌∷◌, ◌++◌, ◌≡◌, refl, sym, ap, ◌∙◌, length, take, drop, replicate, length-take, arith}
 use Rattle.std.proofs.lemmas.List.{length-replicate}
-use native.Mathlib.Omega.{arith}
 use Rattle.types.specs.declared.InlineFrame.{InlineFrame}
 use Rattle.inline.specs.declared.Listed.{Listed}
 use Rattle.inline.specs.Store.{flat}

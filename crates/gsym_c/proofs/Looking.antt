@@ -1,14 +1,8 @@
 -- A lookup's records in a list of numbers, and their copy in a lent list of records.
 -- Assumes nothing.
-use Prim.Native.Nat.{ℕ, ◌+◌, ◌*◌, ◌/◌, ◌≤◌, min}
-use mathlib.Core.Bool.{Bool, true, false, false≢true}
-use mathlib.Core.Logic.{◌⊎◌, inl, inr, ⊎_elim}
-use mathlib.Core.List.{List, [], ◌∷◌, ◌++◌}
-use mathlib.Core.Path.{◌≡◌, refl, sym, ap, subst, ◌∙◌}
-use lib.ListN.{length, take, drop, replicate, length-take}
-use native.Mathlib.Omega.{arith}
+use Rattle.std.proofs.Common.{ℕ, ◌+◌, ◌*◌, ◌/◌, ◌≤◌, min, Bool, true, false, ◌⊎◌, inl, inr, ⊎_elim, List, [], ◌∷◌, ◌++◌, ◌≡◌, refl, sym, ap, subst, ◌∙◌, length, take, drop, replicate, length-take, arith, if◌then◌else◌}
+use mathlib.Core.Bool.{false≢true}
 use Rattle.std.proofs.lemmas.List.{length-replicate}
-use Rattle.reads.specs.Pick.{pick}
 use Rattle.types.specs.declared.Address.{Address}
 use Rattle.types.specs.declared.Options.{Options}
 use Rattle.types.specs.declared.Answer.{Answer}
@@ -143,13 +137,13 @@ module _ (file : List ℕ) (addr : Address) (o : Options) (entry after : List (L
 
 -- ---- by what is asked for
 
-all_asked : (code inlining : Bool) → pick code inlining false ≡ true → (code ≡ true) × (inlining ≡ true)
+all_asked : (code inlining : Bool) → (if code then inlining else false) ≡ true → (code ≡ true) × (inlining ≡ true)
 all_asked true true h = (refl, refl)
 all_asked true false h = absurd (false≢true h)
 all_asked false inlining h = absurd (false≢true h)
 
 not-all :
-    (code inlining : Bool) → pick code inlining false ≡ false →
+    (code inlining : Bool) → (if code then inlining else false) ≡ false →
     (code ≡ true → inlining ≡ false) × ((code ≡ false) ⊎ (inlining ≡ false))
 not-all true inlining h = ((λ _. h), inr h)
 not-all false inlining h = ((λ c. absurd (false≢true c)), inl refl)

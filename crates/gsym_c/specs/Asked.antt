@@ -1,7 +1,6 @@
 -- A lookup as C has it: what is asked for as bits, the answer laid out flat, and the lent list afterwards.
 -- Assumes nothing.
-use Rattle.std.specs.Prelude.{ℕ, ◌/◌, ◌%◌, Bool, true, false, List, ◌≡◌, eqb}
-use Rattle.reads.specs.Pick.{pick}
+use Rattle.std.specs.Prelude.{ℕ, ◌/◌, ◌%◌, Bool, true, false, List, ◌≡◌, eqb, if◌then◌else◌}
 use Rattle.types.specs.declared.Address.{Address}
 use Rattle.types.specs.declared.Options.{Options}
 use Rattle.types.specs.declared.Answer.{Answer}
@@ -20,7 +19,7 @@ options_of bits = record { code_info = eqb (bits % 2) 1; inlining = eqb (bits / 
 
 -- whether records are asked for: both
 abbrev pub asks_frames : Options → Bool
-asks_frames o = pick o.code_info o.inlining false
+asks_frames o = if o.code_info then o.inlining else false
 
 abbrev pub flag : Bool → ℕ
 flag true = 1

@@ -68,8 +68,8 @@ pub(crate) fn capped(line: u64) -> u32
     line.min(4294967295) as u32
 }
 
-// What follows the ranges of a node, of which there are `ranges` from `first` on. By itself, and not a part of
-// `node_head`, it is compiled with its reads in line.
+// What follows the ranges of a node, of which there are `ranges` from `first` on. As a part of `node_head` its last read
+// would be compiled as a call.
 fn head_tail(s: &[u8], ranges: u64, first: usize, at: usize) -> Result<NodeHead, Fault>
     ensures { result ≡ head_tail ranges first (tail_at s.now at) }
 {

@@ -1,7 +1,6 @@
 -- Which bytes a number depends on, and when the bytes end before it does.
 -- Assumes nothing.
-use Rattle.std.proofs.Common.{◌≡◌, ℕ, zero, suc, ◌<◌, ◌≤◌, Bool, true, false, List, [], ◌∷◌, ◌++◌, length, get_or, take, ℤ, sym, refl, ap, ◌∙◌, ⊎_elim, arith}
-use Rattle.reads.specs.Pick.{pick}
+use Rattle.std.proofs.Common.{◌≡◌, ℕ, zero, suc, ◌<◌, ◌≤◌, Bool, true, false, List, [], ◌∷◌, ◌++◌, length, get_or, take, ℤ, sym, refl, ap, ◌∙◌, ⊎_elim, arith, if◌then◌else◌}
 use Rattle.leb128.specs.Leb.{
   Leb,
   number,
@@ -91,7 +90,7 @@ kept-short :
     kept says in_range d ≡ short → d ≡ short
 kept-short says in_range (number v n) e = go (in_range (says v n)) e
   where
-    go : (t : Bool) → pick t (number (says v n) n) wide ≡ short → number v n ≡ short
+    go : (t : Bool) → (if t then number (says v n) n else wide) ≡ short → number v n ≡ short
     go true q = never (cc)
     go false q = never (cc)
 kept-short says in_range short e = refl

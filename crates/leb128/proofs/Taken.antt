@@ -1,10 +1,9 @@
 -- What a number that reads keeps to: it takes one to ten of the bytes there, and its value is in range.
 -- Assumes nothing.
-use Rattle.std.proofs.Common.{◌≡◌, ℕ, zero, suc, ◌+◌, ◌^◌, ◌<◌, ◌≤◌, Bool, true, false, List, [], ◌∷◌, length, drop, ℤ, sym, refl, ap, ◌∙◌, ⊎_elim, arith, length-drop, ltb-true, Ok, Err, Result}
+use Rattle.std.proofs.Common.{◌≡◌, ℕ, zero, suc, ◌+◌, ◌^◌, ◌<◌, ◌≤◌, Bool, true, false, List, [], ◌∷◌, length, drop, ℤ, sym, refl, ap, ◌∙◌, ⊎_elim, arith, length-drop, ltb-true, Ok, Err, Result, if◌then◌else◌}
 use Rattle.leb128.specs.declared.Cause.{Cause}
 use Rattle.leb128.specs.declared.Cause.TheVariants.{Short, Wide}
 use lib.Signed.{mag}
-use Rattle.reads.specs.Pick.{pick}
 use Rattle.leb128.specs.Leb.{
   Leb,
   number,
@@ -39,7 +38,7 @@ kept-inv :
 kept-inv {A} says in_range v n (number x m) e = go (in_range (says x m)) refl e
   where
     go :
-        (t : Bool) → in_range (says x m) ≡ t → pick t (number (says x m) m) wide ≡ number v n →
+        (t : Bool) → in_range (says x m) ≡ t → (if t then number (says x m) m else wide) ≡ number v n →
         (y : ℕ) × (number x m ≡ number y n) × (in_range v ≡ true)
     go true p q =
         let a : m ≡ n = cc in

@@ -1,4 +1,4 @@
--- The marked examples T1 to T5 of document 01, of the definitions.
+-- The marked examples T1 to T5 of RULES, of the definitions.
 -- Assumes nothing.
 use Rattle.std.specs.Prelude.{◌≡◌, ◌-◌, ◌^◌, [], ◌∷◌, ◌++◌, replicate, pos, neg_ℤ, refl}
 use Rattle.leb128.specs.Leb.{number, wide, digits, unsigned, signed}

@@ -1,11 +1,10 @@
--- LEB128 numbers at the front of a list of bytes (DWARF 5, section 7.6; document 01, "LEB128").
+-- LEB128 numbers at the front of a list of bytes (DWARF 5, section 7.6; RULES, "LEB128").
 --   byte from 128    seven bits of the number, and another byte follows
 --   byte below 128   its last seven bits; the upper of them is the sign of a signed number
 -- The lowest seven bits come first. A number has at most ten bytes; those above what it needs are padding.
 -- Assumes nothing.
-use Rattle.std.specs.Prelude.{ℕ, zero, suc, ◌+◌, ◌-◌, ◌*◌, ◌^◌, Bool, List, [], ◌∷◌, ℤ, pos, ◌-ℤ◌, nat_lt}
+use Rattle.std.specs.Prelude.{ℕ, zero, suc, ◌+◌, ◌-◌, ◌*◌, ◌^◌, Bool, List, [], ◌∷◌, ℤ, pos, ◌-ℤ◌, nat_lt, if◌then◌else◌}
 use Rattle.std.specs.Int.Signed.{mag}
-use Rattle.reads.specs.Pick.{pick}
 
 -- what is there: a value and how many bytes it takes; or the bytes end before the number does; or it is too wide
 pub data Leb (A : Type 0) : Type 0 where
@@ -23,11 +22,11 @@ more b wide = wide
 unfoldable pub digits : ℕ → List ℕ → Leb ℕ
 digits zero bs = wide
 digits (suc k) [] = short
-digits (suc k) (b ∷ bs) = pick (nat_lt b 128) (number b 1) (more b (digits k bs))
+digits (suc k) (b ∷ bs) = if nat_lt b 128 then number b 1 else more b (digits k bs)
 
 -- what n groups with the digits v say, if that is in range
 abbrev pub kept : {A : Type 0} → (ℕ → ℕ → A) → (A → Bool) → Leb ℕ → Leb A
-kept says in_range (number v n) = pick (in_range (says v n)) (number (says v n) n) wide
+kept says in_range (number v n) = if in_range (says v n) then number (says v n) n else wide
 kept says in_range short = short
 kept says in_range wide = wide
 
@@ -37,7 +36,7 @@ plain v n = v
 
 -- n groups with the digits v, in two's complement of 7n bits
 abbrev pub complement : ℕ → ℕ → ℤ
-complement v n = pick (nat_lt (2 * v) (128 ^ n)) (pos v) (pos v -ℤ pos (128 ^ n))
+complement v n = if nat_lt (2 * v) (128 ^ n) then pos v else pos v -ℤ pos (128 ^ n)
 
 -- below 2^64
 abbrev pub unsigned64 : ℕ → Bool

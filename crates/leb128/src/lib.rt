@@ -1,5 +1,5 @@
 // LEB128 numbers at a place of a slice (DWARF 5, section 7.6): seven bits a byte, the lowest first, the top bit set
-// where another byte follows. Padding is taken up to ten bytes (document 01, "LEB128").
+// where another byte follows. Padding is taken up to ten bytes (RULES, "LEB128").
 #![tactic(auto)]
 
 ghost use Rattle.std.specs.Prelude.{◌≡◌};
@@ -17,7 +17,7 @@ pub enum Cause {
 const TENTH: u64 = 0x8000_0000_0000_0000;
 
 // The unsigned number at `at` and the place after it. Short where the bytes end first, also past the end of `s`.
-// Wide where it is 2^64 or above or longer than ten bytes (document 01, "LEB128").
+// Wide where it is 2^64 or above or longer than ten bytes (RULES, "LEB128").
 pub fn unsigned_at(s: &[u8], at: usize) -> Result<(u64, usize), Cause>
     ensures { result ≡ unsigned_at s.now at }
 {
@@ -79,7 +79,7 @@ pub fn pass_at(s: &[u8], at: usize) -> Result<usize, Cause>
 }
 
 // The signed number at `at` and the place after it: two's complement in seven bits a byte. Short where the bytes end
-// first, also past the end of `s`. Wide where it is below -2^63, above 2^63-1 or longer than ten bytes (document 01,
+// first, also past the end of `s`. Wide where it is below -2^63, above 2^63-1 or longer than ten bytes (RULES,
 // "LEB128").
 pub fn signed_at(s: &[u8], at: usize) -> Result<(i64, usize), Cause>
     ensures { result ≡ signed_at s.now at }

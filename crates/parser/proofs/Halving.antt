@@ -1,13 +1,12 @@
 -- The halving search one turn at a time, with nothing said of how many turns there are; and each way out of the code.
 -- Assumes nothing.
-use Rattle.std.proofs.Common.{Some, None, ◌≡◌, ℕ, zero, suc, ◌+◌, ◌-◌, ◌/◌, ◌<◌, ◌≤◌, leb, List, length, get_or, refl, ap, ⊎_elim, arith, le-ltb, lt-ltb, eq-eqb, ne_eqb, le-leb}
-use Rattle.reads.specs.Pick.{pick}
+use Rattle.std.proofs.Common.{Some, None, ◌≡◌, ℕ, zero, suc, ◌+◌, ◌-◌, ◌/◌, ◌<◌, ◌≤◌, leb, List, length, get_or, refl, ap, ⊎_elim, arith, le-ltb, lt-ltb, eq-eqb, ne_eqb, le-leb, if◌then◌else◌, cond}
 use Rattle.std.proofs.lemmas.Bool.{cases_lt, lt-leb}
 use Rattle.parser.specs.Search.{halving, chosen_from, find_in}
 
 -- the index after a turn
 abbrev pub moved : List ℕ → ℕ → ℕ → ℕ → ℕ
-moved table wanted lo half = pick (leb (get_or table (lo + half) 0) wanted) (lo + half) lo
+moved table wanted lo half = if leb (get_or table (lo + half) 0) wanted then lo + half else lo
 
 module _ (table : List ℕ) (wanted : ℕ) where
   -- any number of turns that is not below the length gives the same
@@ -19,7 +18,7 @@ module _ (table : List ℕ) (wanted : ℕ) where
   enough (suc k) (suc j) lo len p q =
       ⊎_elim
       (λ (l : 1 < len). let half : ℕ = len / 2 in
-      ap (pick (leb len 1) lo) (enough k j (moved table wanted lo half) (len - half) (omega arith) (omega arith)))
+      ap (cond (leb len 1) lo) (enough k j (moved table wanted lo half) (len - half) (omega arith) (omega arith)))
       (λ (l : len ≤ 1). rw (le-leb _ _ l))
       (cases_lt 1 len)
 

@@ -1,9 +1,8 @@
 -- A table that never falls: the search comes to the last entry that isn't above, counted along the table, and so does
 -- the search for an address among the entries' addresses, whatever the base and the offset size.
 -- Assumes nothing.
-use Rattle.std.proofs.Common.{Option, Some, None, ◌≡◌, ℕ, zero, suc, ◌+◌, ◌-◌, ◌<◌, ◌≤◌, leb, List, [], ◌∷◌, map, length, get_or, sym, refl, ap, ◌∙◌, inl, inr, ⊎_elim, arith, le-ltb, lt-ltb, le-leb}
+use Rattle.std.proofs.Common.{Option, Some, None, ◌≡◌, ℕ, zero, suc, ◌+◌, ◌-◌, ◌<◌, ◌≤◌, leb, List, [], ◌∷◌, map, length, get_or, sym, refl, ap, ◌∙◌, inl, inr, ⊎_elim, arith, le-ltb, lt-ltb, le-leb, if◌then◌else◌}
 use lib.ListN.{length-map}
-use Rattle.reads.specs.Pick.{pick}
 use Rattle.std.proofs.lemmas.Bool.{cases_lt, lt-leb}
 use Rattle.types.specs.declared.Address.{Address}
 use Rattle.parser.specs.declared.Tables.{Tables}
@@ -85,8 +84,8 @@ module _ (base : ℕ) (table : List ℕ) where
     moved-from k [] best h = refl
     moved-from k (e ∷ es) best h =
         let q : leb (base + e) addr ≡ leb e (addr - base) = same_test e h in
-        ap (λ b. land_from (k + 1) (map (λ e. base + e) es) addr (pick b (Some k) best)) q
-        ∙ moved-from (k + 1) es (pick (leb e (addr - base)) (Some k) best) h
+        ap (λ b. land_from (k + 1) (map (λ e. base + e) es) addr (if b then Some k else best)) q
+        ∙ moved-from (k + 1) es (if leb e (addr - base) then Some k else best) h
 
     pub land-moved : base ≤ addr → land_of (map (λ e. base + e) table) addr ≡ land_of table (addr - base)
     unfolding land_of

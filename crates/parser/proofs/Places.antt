@@ -1,7 +1,6 @@
 -- The tables of an opened file lie within it, and each of its numbers reads.
 -- Assumes nothing.
-use Rattle.std.proofs.Common.{Option, Some, None, Result, Ok, Err, ◌≡◌, ℕ, ◌+◌, ◌-◌, ◌*◌, ◌<◌, ◌≤◌, Bool, true, false, eqb, leb, List, length, drop, sym, refl, ◌∙◌, ⊎_elim, arith, length-drop, lt-ltb, le-leb}
-use Rattle.reads.specs.Pick.{pick}
+use Rattle.std.proofs.Common.{Option, Some, None, Result, Ok, Err, ◌≡◌, ℕ, ◌+◌, ◌-◌, ◌*◌, ◌<◌, ◌≤◌, Bool, true, false, eqb, leb, List, length, drop, sym, refl, ◌∙◌, ⊎_elim, arith, length-drop, lt-ltb, le-leb, if◌then◌else◌}
 use Rattle.reads.specs.Answers.{u16_at, u32_at}
 use Rattle.std.proofs.lemmas.Bool.{cases_lt, lt-leb}
 use Rattle.types.specs.declared.FileIndex.{FileIndex}
@@ -20,11 +19,11 @@ refused-is n t e = let z : ◌≡◌ {A = ℕ} 0 1 = cc in never z
 
 module _ (file : List ℕ) (t : Tables) where
   -- an answer after a test
-  only : (b : Bool) (x : Result Tables ℕ) (n : ℕ) → pick b x (Err n) ≡ Ok t → x ≡ Ok t
+  only : (b : Bool) (x : Result Tables ℕ) (n : ℕ) → (if b then x else Err n) ≡ Ok t → x ≡ Ok t
   only true x n e = e
   only false x n e = refused-is n t e
 
-  first_of : (a b : ℕ) (x : Result Tables ℕ) (n : ℕ) → pick (leb a b) x (Err n) ≡ Ok t → (a ≤ b) × (x ≡ Ok t)
+  first_of : (a b : ℕ) (x : Result Tables ℕ) (n : ℕ) → (if leb a b then x else Err n) ≡ Ok t → (a ≤ b) × (x ≡ Ok t)
   first_of a b x n e =
       ⊎_elim
       (λ (l : b < a). let f : Err n ≡ Ok t = simp (lt-leb _ _ l) at e in refused-is n t f)

@@ -1,8 +1,7 @@
 -- One item: each way out of the code is the case of its definition; an item's next place is past it and in the file.
 -- Assumes nothing.
-use Rattle.std.proofs.Common.{Option, Some, None, ◌≡◌, ℕ, ◌+◌, ◌<◌, ◌≤◌, Bool, true, false, eqb, List, length, sym, refl, ◌∙◌, ⊎_elim, arith, eq-eqb, ne_eqb, le-leb}
+use Rattle.std.proofs.Common.{Option, Some, None, ◌≡◌, ℕ, ◌+◌, ◌<◌, ◌≤◌, Bool, true, false, eqb, List, length, sym, refl, ◌∙◌, ⊎_elim, arith, eq-eqb, ne_eqb, le-leb, if◌then◌else◌}
 use borrow.Author.Tests.{lt-leb, eqb-false}
-use Rattle.reads.specs.Pick.{pick}
 use Rattle.reads.specs.Answers.{u32_at}
 use Rattle.std.proofs.lemmas.Bool.{cases_lt}
 use Rattle.reads.proofs.Places.{within}
@@ -83,7 +82,7 @@ module _ (file : List ℕ) (at kind place len next : ℕ) where
   unfolding on_kind
   kind-ahead (Some k) e = go (eqb k 0) refl e
     where
-      go : (b : Bool) → eqb k 0 ≡ b → pick b Closed (on_len file at k (u32_at file (at + 4))) ≡ Is kind place len next
+      go : (b : Bool) → eqb k 0 ≡ b → (if b then Closed else on_len file at k (u32_at file (at + 4))) ≡ Is kind place len next
           → Ahead file at kind place len next
       go true q f = closed_is f
       go false q f = len-ahead k (u32_at file (at + 4)) (eqb-false k 0 q) f

@@ -55,7 +55,7 @@ module _ (file : List ℕ) (t : Tables) (addr : Address) where
     pub symbol-le : addr.0 < 2 ^ 64 → (symbol_at file t i).0 ≤ addr.0
     symbol-le h = omega (arith, symbol-is h, find-base, find-chosen.not-above)
 
-  -- unknown exactly in document 01's cases, in a file within which the tables lie
+  -- unknown exactly in the cases of RULES, in a file within which the tables lie
   no_table : Within file t → length (table_of file t) ≡ 0 → Nowhere file t addr
   no_table w e = go (is_width t.offset_size) refl
     where

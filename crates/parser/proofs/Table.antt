@@ -1,8 +1,7 @@
 -- The address table as a list: its length and its entries.
 -- Assumes nothing.
-use Rattle.std.proofs.Common.{◌≡◌, ℕ, zero, suc, ◌+◌, ◌*◌, ◌<◌, ◌≤◌, Bool, true, false, leb, ◌⊎◌, List, length, get_or, drop, refl, ap, ◌∙◌, inl, inr, mul-le-mul_right, add-mul, arith, drop-drop, ne_eqb, eqb-true, le-leb, leb-true}
+use Rattle.std.proofs.Common.{◌≡◌, ℕ, zero, suc, ◌+◌, ◌*◌, ◌<◌, ◌≤◌, Bool, true, false, leb, ◌⊎◌, List, length, get_or, drop, refl, ap, ◌∙◌, inl, inr, mul-le-mul_right, add-mul, arith, drop-drop, ne_eqb, eqb-true, le-leb, leb-true, if◌then◌else◌}
 use Rattle.std.proofs.lemmas.Bool.{lt-leb}
-use Rattle.reads.specs.Pick.{pick}
 use Rattle.parser.specs.Numbers.{num_at}
 use Rattle.parser.specs.declared.Tables.{Tables}
 use Rattle.parser.specs.Search.{is_width, len_of, entries, table_of}
@@ -35,15 +34,15 @@ module _ (size : ℕ) where
     len-other w = rw w
 
     -- entries there are only at those sizes; they are no more than the count, and fit
-    width-if : (b : Bool) (n : ℕ) → is_width size ≡ b → 0 < pick b n 0 → is_width size ≡ true
+    width-if : (b : Bool) (n : ℕ) → is_width size ≡ b → 0 < (if b then n else 0) → is_width size ≡ true
     width-if true n e h = e
     width-if false n e h = absurd (omega arith)
 
     pub len-width : 0 < len_of size count room → is_width size ≡ true
     unfolding len_of
-    len-width h = width-if (is_width size) (pick (leb (count * size) room) count 0) refl h
+    len-width h = width-if (is_width size) (if leb (count * size) room then count else 0) refl h
 
-    le-if : (b c : Bool) → pick b (pick c count 0) 0 ≤ count
+    le-if : (b c : Bool) → (if b then if c then count else 0 else 0) ≤ count
     le-if true true = omega arith
     le-if true false = omega arith
     le-if false c = omega arith
@@ -52,7 +51,7 @@ module _ (size : ℕ) where
     unfolding len_of
     len-le = le-if (is_width size) (leb (count * size) room)
 
-    room-if : (b c : Bool) → leb (count * size) room ≡ c → pick b (pick c count 0) 0 * size ≤ room
+    room-if : (b c : Bool) → leb (count * size) room ≡ c → (if b then if c then count else 0 else 0) * size ≤ room
     room-if true true e = leb-true (count * size) room e
     room-if true false e = omega arith
     room-if false c e = omega arith

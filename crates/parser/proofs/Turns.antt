@@ -1,8 +1,7 @@
 -- The search on the table in place: each turn of the code is a turn of the search on the list, and each way out its
 -- case.
 -- Assumes nothing.
-use Rattle.std.proofs.Common.{Some, None, ◌≡◌, ℕ, ◌+◌, ◌-◌, ◌*◌, ◌/◌, ◌^◌, ◌<◌, ◌≤◌, Bool, true, false, leb, List, length, get_or, drop, sym, refl, ap, ◌∙◌, ⊎_elim, arith, le-ltb, lt-ltb, le-leb}
-use Rattle.reads.specs.Pick.{pick}
+use Rattle.std.proofs.Common.{Some, None, ◌≡◌, ℕ, ◌+◌, ◌-◌, ◌*◌, ◌/◌, ◌^◌, ◌<◌, ◌≤◌, Bool, true, false, leb, List, length, get_or, drop, sym, refl, ap, ◌∙◌, ⊎_elim, arith, le-ltb, lt-ltb, le-leb, if◌then◌else◌}
 use Rattle.std.proofs.lemmas.Bool.{cases_lt, lt-leb}
 use Rattle.types.specs.declared.Address.{Address}
 use Rattle.parser.specs.Numbers.{num_at}
@@ -13,16 +12,16 @@ use Rattle.parser.proofs.Halving.{moved, chosen-from-end, chosen-from-turn, find
 
 -- how far a turn moves, by a quotient
 module _ (entry wanted half : ℕ) where
-  pub step-plain : entry ≤ wanted → half ≡ pick (leb entry wanted) half 0
+  pub step-plain : entry ≤ wanted → half ≡ (if leb entry wanted then half else 0)
   step-plain h = rw (le-leb _ _ h)
 
-  pub step-none : wanted < entry → 0 ≡ pick (leb entry wanted) half 0
+  pub step-none : wanted < entry → 0 ≡ (if leb entry wanted then half else 0)
   step-none h = rw (lt-leb _ _ h)
 
-  pub step-le : (by : ℕ) → by ≡ pick (leb entry wanted) half 0 → by ≤ half
+  pub step-le : (by : ℕ) → by ≡ (if leb entry wanted then half else 0) → by ≤ half
   step-le by e = le-half (leb entry wanted) e
     where
-      le-half : (b : Bool) → by ≡ pick b half 0 → by ≤ half
+      le-half : (b : Bool) → by ≡ (if b then half else 0) → by ≤ half
       le-half true f = omega arith
       le-half false f = omega arith
 
@@ -38,7 +37,7 @@ module _ (entry wanted half : ℕ) where
         (λ (n : 4294967295 ≤ near). omega arith)
         (cases_lt near 4294967295)
 
-    pub step-near : half * ((4294967296 + near - entry) / 4294967296) ≡ pick (leb entry wanted) half 0
+    pub step-near : half * ((4294967296 + near - entry) / 4294967296) ≡ (if leb entry wanted then half else 0)
     step-near =
         ⊎_elim
         (λ (l : wanted < entry). rw (lt-leb _ _ l, less l) (omega arith))
@@ -60,7 +59,7 @@ module _ (size n : ℕ) (bytes : List ℕ) (wanted : ℕ) where
 
   pub turn :
       (lo len e by : ℕ) → 1 < len → e ≡ num_at size bytes ((lo + len / 2) * size) →
-      by ≡ pick (leb e wanted) (len / 2) 0 → Sofar lo len → Sofar (lo + by) (len - len / 2)
+      by ≡ (if leb e wanted then len / 2 else 0) → Sofar lo len → Sofar (lo + by) (len - len / 2)
   turn lo len e by h r m s =
       record {
         some = omega arith;
@@ -70,11 +69,11 @@ module _ (size n : ℕ) (bytes : List ℕ) (wanted : ℕ) where
             ∙ ap (λ x. chosen_from (entries size n bytes) wanted x (len - len / 2)) (sym g);
       }
     where
-      low : (b : Bool) → by ≡ pick b (len / 2) 0 → lo + by + (len - len / 2) ≤ n
+      low : (b : Bool) → by ≡ (if b then len / 2 else 0) → lo + by + (len - len / 2) ≤ n
       low true f = omega (arith, s.inside)
       low false f = omega (arith, s.inside)
 
-      where_to : (b : Bool) → by ≡ pick b (len / 2) 0 → lo + by ≡ pick b (lo + len / 2) lo
+      where_to : (b : Bool) → by ≡ (if b then len / 2 else 0) → lo + by ≡ (if b then lo + len / 2 else lo)
       where_to true f = ap (λ x. lo + x) f
       where_to false f = omega arith
 
@@ -82,7 +81,7 @@ module _ (size n : ℕ) (bytes : List ℕ) (wanted : ℕ) where
       g =
           let q : e ≡ get_or (entries size n bytes) (lo + len / 2) 0 =
           r ∙ sym (entry-is size n (lo + len / 2) bytes (omega (arith, s.inside))) in
-          where_to (leb e wanted) m ∙ ap (λ x. pick (leb x wanted) (lo + len / 2) lo) q
+          where_to (leb e wanted) m ∙ ap (λ x. if leb x wanted then lo + len / 2 else lo) q
 
   -- no entries, or the first above
   pub none : n ≡ 0 → None ≡ find_in (entries size n bytes) wanted

@@ -1,4 +1,4 @@
--- What an entry says (document 01, "Header and tables" and "Finding the entry").
+-- What an entry says (RULES, "Header and tables" and "Finding the entry").
 --
 --   data offset i    4 bytes    where the entry's information stands, counted from the file's start
 --   information      4          size
@@ -7,8 +7,7 @@
 --   file table       per file:  directory 4, file name 4, offsets in the string table
 --
 -- Assumes nothing.
-use Rattle.std.specs.Prelude.{ℕ, ◌+◌, ◌-◌, ◌*◌, ◌%◌, ◌^◌, Bool, true, false, List, Option, Some, None, drop, ◌==◌, nat_lt, slice_index}
-use Rattle.reads.specs.Pick.{pick}
+use Rattle.std.specs.Prelude.{ℕ, ◌+◌, ◌-◌, ◌*◌, ◌%◌, ◌^◌, Bool, true, false, List, Option, Some, None, drop, ◌==◌, nat_lt, slice_index, if◌then◌else◌}
 use Rattle.reads.specs.Answers.{u32_at}
 use Rattle.types.specs.declared.Address.{Address}
 use Rattle.types.specs.declared.FileIndex.{FileIndex}
@@ -24,7 +23,7 @@ symbol_at file t i = record { 0 = (t.base.0 + slice_index (table_of file t) i) %
 
 -- the data offset of an entry
 unfoldable pub offset_at : List ℕ → Tables → ℕ → Option ℕ
-offset_at file t i = pick (nat_lt i t.count) (u32_at (drop t.offsets file) (i * 4)) None
+offset_at file t i = if nat_lt i t.count then u32_at (drop t.offsets file) (i * 4) else None
 
 -- size and name at a place, and the place of the first item: fewer than 8 bytes there don't read
 abbrev pub as_info : ℕ → Option (ℕ × ℕ) → Option AddrInfo
@@ -45,7 +44,7 @@ info_at file t i = on_offset file (offset_at file t i)
 -- whether a symbol covers an address: size 0 everything from the symbol's address on
 unfoldable pub covered_by : Address → Address → ℕ → Bool
 covered_by addr symbol size =
-    pick (nat_lt addr.0 symbol.0) false (pick (size == 0) true (nat_lt (addr.0 - symbol.0) size))
+    if nat_lt addr.0 symbol.0 then false else if size == 0 then true else nat_lt (addr.0 - symbol.0) size
 
 -- directory and file name at an index below the file count
 abbrev pub as_file : Option (ℕ × ℕ) → Option FileInfo
@@ -54,4 +53,4 @@ as_file None = None
 
 unfoldable pub file_at : List ℕ → Tables → FileIndex → Option FileInfo
 file_at file t index =
-    pick (nat_lt index.0 t.file_count) (as_file (pair_at (drop t.files file) (index.0 * 8))) None
+    if nat_lt index.0 t.file_count then as_file (pair_at (drop t.files file) (index.0 * 8)) else None

@@ -1,4 +1,4 @@
--- The header and where the tables stand (document 01, "Header and tables"). All numbers are little-endian.
+-- The header and where the tables stand (RULES, "Header and tables"). All numbers are little-endian.
 --
 --   place   bytes                  what
 --   0       4                      magic, 0x4753594d
@@ -17,8 +17,7 @@
 --           files · 8              file table: directory, file name
 --
 -- Assumes nothing.
-use Rattle.std.specs.Prelude.{◌≡◌, ℕ, ◌+◌, ◌*◌, ◌/◌, ◌≤◌, List, Option, Some, None, Result, Ok, Err, length, ◌==◌, nat_le}
-use Rattle.reads.specs.Pick.{pick}
+use Rattle.std.specs.Prelude.{◌≡◌, ℕ, ◌+◌, ◌*◌, ◌/◌, ◌≤◌, List, Option, Some, None, Result, Ok, Err, length, ◌==◌, nat_le, if◌then◌else◌}
 use Rattle.reads.specs.Answers.{u16_at, u32_at}
 use Rattle.parser.specs.declared.Tables.{Tables}
 use Rattle.parser.specs.declared.opening.Header.{Header}
@@ -64,27 +63,27 @@ tables_with h n = record {
 -- the file table and the string table lie in the file, or too few bytes are there
 unfoldable pub with_files : List ℕ → Header → ℕ → Result Tables ℕ
 with_files file h n =
-    pick (nat_le (files_place h + n * 8) (length file))
-    (pick (nat_le (h.strings_offset + h.strings_size) (length file)) (Ok (tables_with h n)) (Err 2))
-    (Err 2)
+    if nat_le (files_place h + n * 8) (length file)
+    then if nat_le (h.strings_offset + h.strings_size) (length file) then Ok (tables_with h n) else Err 2
+    else Err 2
 
 -- the address table, the data offsets and the file count lie in the file, or too few bytes are there
 unfoldable pub tables_of : List ℕ → Header → Result Tables ℕ
 tables_of file h =
-    pick (nat_le (files_place h) (length file)) (with_files file h (num_at 4 file (file_count_place h))) (Err 2)
+    if nat_le (files_place h) (length file) then with_files file h (num_at 4 file (file_count_place h)) else Err 2
 
 -- the header lies in the file, or too few bytes are there
 unfoldable pub after_version : List ℕ → Result Tables ℕ
-after_version file = pick (nat_le 48 (length file)) (tables_of file (numbers_of file)) (Err 2)
+after_version file = if nat_le 48 (length file) then tables_of file (numbers_of file) else Err 2
 
 -- version is judged once 6 bytes are there
 unfoldable pub on_version : List ℕ → Option ℕ → Result Tables ℕ
-on_version file (Some version) = pick (version == 1) (after_version file) (Err 4)
+on_version file (Some version) = if version == 1 then after_version file else Err 4
 on_version file None = Err 2
 
 -- magic is judged once 4 bytes are there
 unfoldable pub on_magic : List ℕ → Option ℕ → Result Tables ℕ
-on_magic file (Some magic) = pick (magic == 0x4753594d) (on_version file (u16_at file 4)) (Err 3)
+on_magic file (Some magic) = if magic == 0x4753594d then on_version file (u16_at file 4) else Err 3
 on_magic file None = Err 2
 
 unfoldable pub opened_of : List ℕ → Result Tables ℕ

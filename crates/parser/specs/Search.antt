@@ -1,4 +1,4 @@
--- Finding the entry of an address (document 01, "Finding the entry").
+-- Finding the entry of an address (RULES, "Finding the entry").
 --
 --   address table    count numbers of offset size bytes, one after another; the offset size is 1, 2, 4 or 8
 --
@@ -6,8 +6,7 @@
 -- by halving, so that the answer is settled in every table, also in one that falls, where several entries may fit. The
 -- laws `chosen` and `chosen-unique` give it its meaning.
 -- Assumes nothing.
-use Rattle.std.specs.Prelude.{◌≡◌, ℕ, zero, suc, ◌+◌, ◌-◌, ◌*◌, ◌/◌, ◌<◌, ◌≤◌, Bool, true, false, ◌⊎◌, List, [], ◌∷◌, Option, Some, None, map, length, drop, ◌==◌, nat_le, nat_lt, slice_index, slice_index_or}
-use Rattle.reads.specs.Pick.{pick}
+use Rattle.std.specs.Prelude.{◌≡◌, ℕ, zero, suc, ◌+◌, ◌-◌, ◌*◌, ◌/◌, ◌<◌, ◌≤◌, Bool, true, false, ◌⊎◌, List, [], ◌∷◌, Option, Some, None, map, length, drop, ◌==◌, nat_le, nat_lt, slice_index, slice_index_or, if◌then◌else◌}
 use Rattle.types.specs.declared.Address.{Address}
 use Rattle.parser.specs.declared.Tables.{Tables}
 use Rattle.parser.specs.Numbers.{num_at}
@@ -16,8 +15,8 @@ use Rattle.parser.specs.Numbers.{num_at}
 unfoldable pub halving : ℕ → List ℕ → ℕ → ℕ → ℕ → ℕ
 halving zero table wanted lo len = lo
 halving (suc k) table wanted lo len =
-    pick (nat_le len 1) lo
-    (halving k table wanted (pick (nat_le (slice_index table (lo + len / 2)) wanted) (lo + len / 2) lo) (len - len / 2))
+    if nat_le len 1 then lo
+    else halving k table wanted (if nat_le (slice_index table (lo + len / 2)) wanted then lo + len / 2 else lo) (len - len / 2)
 
 -- the index that is chosen among the len entries from lo on: each turn takes at least one of them away, so len turns
 -- are enough
@@ -27,16 +26,16 @@ chosen_from table wanted lo len = halving len table wanted lo len
 -- no entries, or the first entry above: unknown
 unfoldable pub find_in : List ℕ → ℕ → Option ℕ
 find_in table wanted =
-    pick (length table == 0) None
-    (pick (nat_lt wanted (slice_index table 0)) None (Some (chosen_from table wanted 0 (length table))))
+    if length table == 0 then None
+    else if nat_lt wanted (slice_index table 0) then None else Some (chosen_from table wanted 0 (length table))
 
 -- the offset sizes
 abbrev pub is_width : ℕ → Bool
-is_width size = pick (size == 1) true (pick (size == 2) true (pick (size == 4) true (size == 8)))
+is_width size = if size == 1 then true else if size == 2 then true else if size == 4 then true else size == 8
 
 -- how many entries: none at another offset size, and none where they don't fit in the bytes there are
 unfoldable pub len_of : ℕ → ℕ → ℕ → ℕ
-len_of size count room = pick (is_width size) (pick (nat_le (count * size) room) count 0) 0
+len_of size count room = if is_width size then if nat_le (count * size) room then count else 0 else 0
 
 -- n numbers of a size, one after another
 unfoldable pub entries : ℕ → ℕ → List ℕ → List ℕ
@@ -52,11 +51,11 @@ table_of file t =
 
 -- the entry of an address: unknown below the base
 unfoldable pub find_of : List ℕ → Tables → Address → Option ℕ
-find_of file t addr = pick (nat_lt addr.0 t.base.0) None (find_in (table_of file t) (addr.0 - t.base.0))
+find_of file t addr = if nat_lt addr.0 t.base.0 then None else find_in (table_of file t) (addr.0 - t.base.0)
 
 -- ---- what the search is held to
 
--- document 01's four cases of an unknown address, in a file whose address table fits
+-- the four cases of an unknown address, in a file whose address table fits
 pub data Nowhere (file : List ℕ) (t : Tables) (addr : Address) : Type 0 where
   below-base : addr.0 < t.base.0 → Nowhere file t addr
   other-size : is_width t.offset_size ≡ false → Nowhere file t addr
@@ -91,7 +90,7 @@ pub record LastNotAbove (table : List ℕ) (wanted i : ℕ) : Type 0 where
 -- falls
 unfoldable pub land_from : ℕ → List ℕ → ℕ → Option ℕ → Option ℕ
 land_from i [] wanted best = best
-land_from i (e ∷ es) wanted best = land_from (i + 1) es wanted (pick (nat_le e wanted) (Some i) best)
+land_from i (e ∷ es) wanted best = land_from (i + 1) es wanted (if nat_le e wanted then Some i else best)
 
 unfoldable pub land_of : List ℕ → ℕ → Option ℕ
 land_of table wanted = land_from 0 table wanted None

@@ -1,5 +1,5 @@
 // What an entry of the address table says: its symbol's address, size and name; and the rows of the file table
-// (document 01, "Header and tables" and "Finding the entry").
+// (RULES, "Header and tables" and "Finding the entry").
 ghost use Rattle.std.specs.Prelude.{◌≡◌};
 ghost use Rattle.parser.specs.Entries.{symbol_at, info_in, info_at, covered_by, file_at};
 

@@ -1,4 +1,4 @@
-// One step of the address data list (document 01, "Address data list").
+// One step of the address data list (RULES, "Address data list").
 ghost use Rattle.std.specs.Prelude.{◌≡◌};
 ghost use Rattle.parser.specs.Items.{item_at};
 

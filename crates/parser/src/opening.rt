@@ -1,4 +1,4 @@
-// The header and where the tables stand (document 01, "Header and tables"), in three stages: magic and version, the
+// The header and where the tables stand (RULES, "Header and tables"), in three stages: magic and version, the
 // header's numbers, the tables.
 ghost use Rattle.std.specs.Prelude.{◌≡◌, ◌≤◌, length};
 ghost use Rattle.parser.specs.Header.{numbers_of, tables_of, opened_of};

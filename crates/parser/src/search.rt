@@ -1,6 +1,5 @@
-// The entry of an address: a halving search on the address table in place (document 01, "Finding the entry").
-ghost use Rattle.std.specs.Prelude.{◌≡◌, ◌+◌, ◌*◌, ◌^◌, ◌<◌, ◌≤◌, true, length, ◌≢◌, nat_le};
-ghost use Rattle.reads.specs.Pick.{pick};
+// The entry of an address: a halving search on the address table in place (RULES, "Finding the entry").
+ghost use Rattle.std.specs.Prelude.{◌≡◌, ◌+◌, ◌*◌, ◌^◌, ◌<◌, ◌≤◌, true, length, ◌≢◌, nat_le, if◌then◌else◌};
 ghost use Rattle.parser.specs.Numbers.{num_at};
 ghost use Rattle.parser.specs.Search.{is_width, len_of, entries, find_in, find_of};
 
@@ -85,7 +84,7 @@ fn halve(table: &[u8], size: u8, n: usize, wanted: u64) -> Option<usize>
 // brought down to the largest of them, which tells no entry apart. `halve` gives such an entry at every size but 8.
 fn step(size: u8, entry: u64, wanted: u64, half: usize) -> usize
     requires { (size ≢ 8) → entry < 2 ^ 32 }
-    ensures { result ≡ pick (nat_le entry wanted) half 0 }
+    ensures { result ≡ (if nat_le entry wanted then half else 0) }
 {
     if size == 8 {
         if entry <= wanted { half } else { 0 }

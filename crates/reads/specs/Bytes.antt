@@ -3,8 +3,7 @@
 --   width in bytes   least significant byte first   a number from 0 to 256 ^ width - 1
 --
 -- Assumes nothing.
-use Rattle.std.specs.Prelude.{ℕ, zero, suc, ◌+◌, ◌*◌, ◌/◌, ◌%◌, List, [], ◌∷◌, Option, Some, None, length, take, drop, leb}
-use Rattle.reads.specs.Pick.{pick}
+use Rattle.std.specs.Prelude.{ℕ, zero, suc, ◌+◌, ◌*◌, ◌/◌, ◌%◌, List, [], ◌∷◌, Option, Some, None, length, take, drop, leb, if◌then◌else◌}
 
 -- the number that bytes say: the first counts once, each next one 256 times as much
 unfoldable pub le : List ℕ → ℕ
@@ -13,7 +12,7 @@ le (b ∷ bs) = b + 256 * le bs
 
 -- the number in the first bytes of a list; where there are fewer there is none
 unfoldable pub le_in : ℕ → List ℕ → Option ℕ
-le_in width bs = pick (leb width (length bs)) (Some (le (take width bs))) None
+le_in width bs = if leb width (length bs) then Some (le (take width bs)) else None
 
 -- the number at a place of a list
 abbrev pub le_at : ℕ → List ℕ → ℕ → Option ℕ

@@ -1,14 +1,8 @@
 -- An answer comes from the place that the entry's data offset names; and what it shows, each text as its bytes, comes
 -- from the book, the symbol's address and the entry's data alone.
 -- Assumes nothing.
-use Rattle.std.proofs.Common.{Some, None, Option}
-use Prim.Native.Nat.{ℕ, zero, suc, ◌+◌, ◌-◌, ◌≤◌}
-use mathlib.Core.List.{List, [], ◌∷◌, map}
-use mathlib.Core.Path.{◌≡◌, refl, sym, ap, ◌∙◌}
-use lib.ListN.{length, take, drop, length-drop}
-use lib.Seq.{take-nil, take-take, drop-drop, length-take-le}
-use native.Mathlib.Omega.{arith}
-use borrow.Author.Tests.{le-leb}
+use Rattle.std.proofs.Common.{Some, None, Option, ℕ, zero, suc, ◌+◌, ◌-◌, ◌≤◌, List, [], ◌∷◌, map, ◌≡◌, refl, sym, ap, ◌∙◌, length, take, drop, length-drop, take-take, drop-drop, length-take-le, arith, le-leb}
+use lib.Seq.{take-nil}
 use Rattle.types.specs.declared.Address.{Address}
 use Rattle.types.specs.declared.Options.{Options}
 use Rattle.types.specs.Refusal.{no_text}

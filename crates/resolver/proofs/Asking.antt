@@ -1,14 +1,8 @@
 -- What is asked for decides: with both options the lookup is that with frames; else room doesn't matter, no records are
 -- written, and the answer is the plain one.
 -- Assumes nothing.
-use Rattle.std.proofs.Common.{Some, None, Ok, Err, Option, Result}
-use Prim.Native.Nat.{ℕ}
-use mathlib.Core.Bool.{Bool, true, false, false≢true}
-use mathlib.Core.List.{List, [], ◌∷◌}
-use mathlib.Core.Logic.{⊎_elim}
-use mathlib.Core.Path.{◌≡◌, refl, sym, ap, ◌∙◌}
-use lib.Dec.{eqb}
-use Rattle.reads.specs.Pick.{pick}
+use Rattle.std.proofs.Common.{Some, None, Ok, Err, Option, Result, ℕ, Bool, true, false, List, [], ◌∷◌, ⊎_elim, ◌≡◌, refl, sym, ap, ◌∙◌, eqb, if◌then◌else◌}
+use mathlib.Core.Bool.{false≢true}
 use Rattle.types.specs.declared.Address.{Address}
 use Rattle.types.specs.declared.Answer.{Answer}
 use Rattle.types.specs.declared.Options.{Options}
@@ -42,7 +36,7 @@ module _ (symbol addr : Address) (room : ℕ) where
   unfolding hear_frames
   passed k p go = tested (eqb p.kind 2)
     where
-      tested : (b : Bool) → pick b (go []) (go []) ≡ go []
+      tested : (b : Bool) → (if b then go [] else go []) ≡ go []
       tested true = refl
       tested false = refl
 
@@ -54,7 +48,7 @@ module _ (symbol addr : Address) (room : ℕ) where
   rows_agree p go to h None = tested (eqb p.kind 1) (line_row p.bytes symbol addr)
     where
       tested : (b : Bool) (l : Result (Option LineTableRow) Cause) →
-          pick b (after_line go l) (go None) ≡ pick b (after_line to l) (to None)
+          (if b then after_line go l else go None) ≡ (if b then after_line to l else to None)
       tested false l = h None
       tested true (Ok r) = h r
       tested true (Err c) = refl

@@ -1,12 +1,7 @@
 -- A lookup's number from 10 to 14 is the refusal that the call for a single block gives: that of the entry's deciding
 -- inline block, at the same symbol address, bytes, address and room.
 -- Assumes nothing.
-use Rattle.std.proofs.Common.{None}
-use Prim.Native.Nat.{ℕ, ◌≤◌}
-use mathlib.Core.List.{List}
-use mathlib.Core.Path.{◌≡◌}
-use mathlib.Core.Logic.{⊎_elim}
-use native.Mathlib.Omega.{arith}
+use Rattle.std.proofs.Common.{None, ℕ, ◌≤◌, List, ◌≡◌, ⊎_elim, arith}
 use Rattle.types.specs.declared.Address.{Address}
 use Rattle.types.specs.declared.Options.{Options}
 use Rattle.inline.specs.Block.{refused}

@@ -1,16 +1,7 @@
 -- The book of an opened file: its rows are those of the file table in place, and a string or a name reads in the file
 -- exactly where it reads in the book.
 -- Assumes nothing.
-use Rattle.std.proofs.Common.{Some, None, Option}
-use Prim.Native.Nat.{ℕ, zero, suc, ◌+◌, ◌*◌, ◌≤◌, ◌<◌}
-use mathlib.Core.Bool.{Bool, true, false}
-use mathlib.Core.List.{List}
-use mathlib.Core.Path.{◌≡◌, refl, ap, sym, ◌∙◌}
-use mathlib.Core.Logic.{⊎_elim}
-use lib.ListN.{drop}
-use lib.Seq.{drop-drop}
-use native.Mathlib.Omega.{arith}
-use Rattle.reads.specs.Pick.{pick}
+use Rattle.std.proofs.Common.{Some, None, Option, ℕ, zero, suc, ◌+◌, ◌*◌, ◌≤◌, ◌<◌, Bool, true, false, List, ◌≡◌, refl, ap, sym, ◌∙◌, ⊎_elim, drop, drop-drop, arith, if◌then◌else◌}
 use Rattle.std.proofs.lemmas.Bool.{cases_lt}
 use Rattle.types.specs.declared.FileIndex.{FileIndex}
 use Rattle.types.specs.declared.StrOffset.{StrOffset}
@@ -61,32 +52,32 @@ nth-none (suc n) (suc i) bytes h = nth-none n i (drop 8 bytes) (omega arith)
 module _ (b : Book) (place offset : ℕ) where
   -- a string of the table's bytes, as an answer
   text-by : placed (place + offset) (text_in b.strings offset)
-      ≡ pick (reads_text b offset) (Some (spell_text b place offset)) None
+      ≡ (if reads_text b offset then Some (spell_text b place offset) else None)
   unfolding reads_text spell_text
   text-by = go (text_in b.strings offset)
     where
       go : (l : Option ℕ) → placed (place + offset) l
-          ≡ pick (there l) (Some (spelt (place + offset) l)) None
+          ≡ (if there l then Some (spelt (place + offset) l) else None)
       go (Some n) = refl
       go None = refl
 
   -- a name is the string of its length
   name_by : placed (place + offset) (name_in b.strings offset)
-      ≡ pick (reads_name b offset) (Some (spell_text b place offset)) None
+      ≡ (if reads_name b offset then Some (spell_text b place offset) else None)
   unfolding reads_name spell_text
   name_by = go (name_in b.strings offset) refl
     where
       go : (l : Option ℕ) → name_in b.strings offset ≡ l → placed (place + offset) l
-          ≡ pick (there l) (Some (spelt (place + offset) (text_in b.strings offset))) None
+          ≡ (if there l then Some (spelt (place + offset) (text_in b.strings offset)) else None)
       go (Some n) e = rw (name-in-is b.strings offset n e).0
       go None e = refl
 
 -- an answer after a test
-picked : (b : Bool) (x y : Text) → pick b (Some x) None ≡ Some y → (b ≡ true) × (y ≡ x)
+picked : (b : Bool) (x y : Text) → (if b then Some x else None) ≡ Some y → (b ≡ true) × (y ≡ x)
 picked true x y e = let q : y ≡ x = cc in (refl, q)
 picked false x y e = let z : ◌≡◌ {A = ℕ} 0 1 = cc in never z
 
-not-picked : (b : Bool) (x : Text) → pick b (Some x) None ≡ None → b ≡ false
+not-picked : (b : Bool) (x : Text) → (if b then Some x else None) ≡ None → b ≡ false
 not-picked true x e = let z : ◌≡◌ {A = ℕ} 0 1 = cc in never z
 not-picked false x e = refl
 
@@ -106,9 +97,9 @@ module _ (file : List ℕ) (t : Tables) (w : Within file t) where
   module _ (offset : StrOffset) where
     pub text_in-book :
         text_at file t.strings offset
-        ≡ pick (reads_text (book_of file t) offset.0)
-        (Some (spell_text (book_of file t) t.strings.place offset.0))
-        None
+        ≡ (if reads_text (book_of file t) offset.0
+        then Some (spell_text (book_of file t) t.strings.place offset.0)
+        else None)
     unfolding book_of
     text_in-book =
         text_in-table file t.strings offset w.strings-end
@@ -116,9 +107,9 @@ module _ (file : List ℕ) (t : Tables) (w : Within file t) where
 
     pub name-in-book :
         name_at file t.strings offset
-        ≡ pick (reads_name (book_of file t) offset.0)
-        (Some (spell_text (book_of file t) t.strings.place offset.0))
-        None
+        ≡ (if reads_name (book_of file t) offset.0
+        then Some (spell_text (book_of file t) t.strings.place offset.0)
+        else None)
     unfolding book_of
     name-in-book =
         name-in-table file t.strings offset w.strings-end

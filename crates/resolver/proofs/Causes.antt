@@ -1,13 +1,6 @@
--- Positions and later frames: each refusal is given exactly when its cause is met, the first in document 01's order.
+-- Positions and later frames: each refusal is given exactly when its cause is met, the first in the order of RULES.
 -- Assumes nothing.
-use Rattle.std.proofs.Common.{Some, None, Option}
-use Prim.Native.Nat.{ℕ, zero, suc, ◌≤◌}
-use mathlib.Core.Bool.{Bool, true, false}
-use mathlib.Core.List.{List, [], ◌∷◌, ◌++◌}
-use mathlib.Core.Path.{◌≡◌, refl, sym, ap, ◌∙◌}
-use lib.ListN.{length}
-use native.Mathlib.Omega.{arith}
-use Rattle.reads.specs.Pick.{pick}
+use Rattle.std.proofs.Common.{Some, None, Option, ℕ, zero, suc, ◌≤◌, Bool, true, false, List, [], ◌∷◌, ◌++◌, ◌≡◌, refl, sym, ap, ◌∙◌, length, arith, if◌then◌else◌}
 use Rattle.types.specs.declared.InlineFrame.{InlineFrame}
 use Rattle.parser.specs.declared.FileInfo.{FileInfo}
 use Rattle.inline.proofs.Numbers.{never}
@@ -48,7 +41,7 @@ module _ (b : Book) (index line n : ℕ) where
       go (Some r) q f = dir (reads_text b r.directory.0) refl (reads_text b r.filename.0) refl f
         where
           dir : (t : Bool) → reads_text b r.directory.0 ≡ t → (u : Bool) → reads_text b r.filename.0 ≡ u →
-              pick t (pick u (is (site r.directory.0 r.filename.0 line)) (no 8)) (no 8)
+              (if t then if u then is (site r.directory.0 r.filename.0 line) else no 8 else no 8)
               ≡ no n →
               Unplaced b index n
           dir true p true o f = never (let z : ◌≡◌ {A = ℕ} 0 1 = cc in z)

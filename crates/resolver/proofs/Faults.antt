@@ -1,15 +1,7 @@
 -- Faults refuse in list order: a fault is told exactly where an item, after others that read, has a line header or an
 -- inline block that doesn't read.
 -- Assumes nothing.
-use Rattle.std.proofs.Common.{Some, None, Option}
-use Prim.Native.Nat.{ℕ}
-use mathlib.Core.Bool.{Bool, true, false}
-use mathlib.Core.List.{List, [], ◌∷◌, ◌++◌}
-use mathlib.Core.Path.{◌≡◌, refl, sym, ap, ◌∙◌}
-use lib.Dec.{eqb}
-use native.Mathlib.Omega.{arith}
-use borrow.Author.Tests.{eq-eqb, ne_eqb, eqb-true}
-use Rattle.reads.specs.Pick.{pick}
+use Rattle.std.proofs.Common.{Some, None, Option, ℕ, Bool, true, false, List, [], ◌∷◌, ◌++◌, ◌≡◌, refl, sym, ap, ◌∙◌, eqb, arith, eq-eqb, ne_eqb, eqb-true, if◌then◌else◌}
 use Rattle.types.specs.declared.InlineFrame.{InlineFrame}
 use Rattle.linetab.specs.Rows.{line_row}
 use Rattle.inline.specs.Block.{Block, listed, refused}
@@ -47,7 +39,7 @@ module _ (q : Ask) where
   row-unread p None e = go (eqb p.kind 1) refl e
     where
       go : (t : Bool) → eqb p.kind 1 ≡ t →
-          pick t (as_row (line_row p.bytes q.symbol q.addr)) (row None) ≡ unread →
+          (if t then as_row (line_row p.bytes q.symbol q.addr) else row None) ≡ unread →
           (◌≡◌ {A = Option LineTableRow} None None) × (p.kind ≡ 1)
           × (as_row (line_row p.bytes q.symbol q.addr) ≡ unread)
       go true k e = (refl, eqb-true p.kind 1 k, e)
@@ -71,7 +63,7 @@ module _ (q : Ask) where
   frames-refused p [] n e = go (eqb p.kind 2) refl q.inlining refl e
     where
       go : (t : Bool) → eqb p.kind 2 ≡ t → (u : Bool) → q.inlining ≡ u →
-          pick t (pick u (block_in q p) (listed [])) (listed []) ≡ refused n →
+          (if t then if u then block_in q p else listed [] else listed []) ≡ refused n →
           (◌≡◌ {A = List InlineFrame} [] []) × (p.kind ≡ 2) × (q.inlining ≡ true) × (block_in q p ≡ refused n)
       go true k true i e = (refl, eqb-true p.kind 2 k, i, e)
       go true k false i e = never (let z : ◌≡◌ {A = ℕ} 0 1 = cc in z)

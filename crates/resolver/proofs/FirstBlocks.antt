@@ -1,15 +1,8 @@
 -- The frames of a lookup are those of one inline block, the first that doesn't list none: what the call for a single
 -- block gives at the same symbol address, bytes, address and room, be it frames or a refusal.
 -- Assumes nothing.
-use Rattle.std.proofs.Common.{Option}
-use Prim.Native.Nat.{ℕ, ◌≤◌}
-use mathlib.Core.Bool.{Bool, true, false}
-use mathlib.Core.List.{List, [], ◌∷◌, ◌++◌}
-use mathlib.Core.Path.{◌≡◌, refl, sym, ap, ◌∙◌}
-use mathlib.Core.Logic.{◌⊎◌, inl, inr, ⊎_elim}
-use lib.Dec.{eqb}
-use native.Mathlib.Omega.{arith}
-use borrow.Author.Tests.{eq-eqb, eqb-true, eqb-false}
+use Rattle.std.proofs.Common.{Option, ℕ, ◌≤◌, Bool, true, false, List, [], ◌∷◌, ◌++◌, ◌≡◌, refl, sym, ap, ◌∙◌, ◌⊎◌, inl, inr, ⊎_elim, eqb, arith, eq-eqb, eqb-true}
+use borrow.Author.Tests.{eqb-false}
 use Rattle.types.specs.declared.InlineFrame.{InlineFrame}
 use Rattle.inline.specs.Block.{Block, listed, refused}
 use Rattle.inline.proofs.Numbers.{never}

@@ -1,13 +1,8 @@
 -- The answer with frames, as its stages hand it on, is the whole lookup's: positions move up one in both.
 -- Assumes nothing.
-use Rattle.std.proofs.Common.{Some, None, Err, Result}
-use Prim.Native.Nat.{ℕ}
-use mathlib.Core.Bool.{Bool, true, false}
-use mathlib.Core.List.{List, [], ◌∷◌, ◌++◌, map}
-use mathlib.Core.Path.{◌≡◌, refl, sym, ap, ◌∙◌}
+use Rattle.std.proofs.Common.{Some, None, Err, Result, ℕ, Bool, true, false, List, [], ◌∷◌, ◌++◌, map, ◌≡◌, refl, sym, ap, ◌∙◌, if◌then◌else◌}
 use lib.ListN.{length-map}
 use lib.Seq.{append_snoc}
-use Rattle.reads.specs.Pick.{pick}
 use Rattle.types.specs.declared.Address.{Address}
 use Rattle.types.specs.declared.Text.{Text}
 use Rattle.types.specs.declared.Frame.{Frame}
@@ -112,8 +107,8 @@ module _ (file : List ℕ) (t : Tables) where
             (b : Bool) (s : SiteRead) →
             then_lift
             (λ g. lift file t (spell_site book start row) (made ++ record_of (named n) (place_in g) ∷ []) g.name fs)
-            (pick b (with_read f.name.0 s) (Err 6))
-            ≡ lifts made n (pick b (with_site f.name.0 (calls_of book fs) s) (noCalls 6))
+            (if b then with_read f.name.0 s else Err 6)
+            ≡ lifts made n (if b then with_site f.name.0 (calls_of book fs) s else noCalls 6)
         go h false s = refl
         go h true (no_site k) = refl
         go h true (is s) = h s ∙ one_more made n f.name.0 s (calls_of book fs)
@@ -143,8 +138,8 @@ module _ (file : List ℕ) (t : Tables) where
           go :
               (b : Bool) (s : SiteRead) →
               after_first file t e (named n) (spell_site book start row) fs
-              (pick b (with_read f.name.0 s) (Err 6))
-              ≡ say (pick b (with_site f.name.0 (calls_of book fs) s) (noCalls 6)) row n
+              (if b then with_read f.name.0 s else Err 6)
+              ≡ say (if b then with_site f.name.0 (calls_of book fs) s else noCalls 6) row n
           go false s = refl
           go true (no_site k) = refl
           go true (is s) =
@@ -163,9 +158,9 @@ module _ (file : List ℕ) (t : Tables) where
       where
         go :
             (b : Bool) →
-            pick b (with_later file t e (named f.name.0) (spell_site book start row) fs) (refusing 6)
+            (if b then with_later file t e (named f.name.0) (spell_site book start row) fs else refusing 6)
             ≡ spell book start e.symbol
-            (pick b (with_calls d.size f.name.0 row (calls_of book fs)) (refuses 6))
+            (if b then with_calls d.size f.name.0 row (calls_of book fs) else refuses 6)
         go true = later row f.name.0 fs
         go false = refl
 

@@ -1,11 +1,6 @@
 -- The frames of a block in a list of numbers, three for each: how many there are, and which, by the list's front.
 -- Assumes nothing.
-use Prim.Native.Nat.{ℕ, zero, suc, ◌+◌, ◌-◌, ◌*◌, ◌<◌, ◌≤◌}
-use mathlib.Core.List.{List, [], ◌∷◌}
-use mathlib.Core.Path.{◌≡◌, refl, sym, ap, subst, ◌∙◌}
-use lib.ListN.{length, get_or, take}
-use lib.Seq.{get_or-take}
-use native.Mathlib.Omega.{arith}
+use Rattle.std.proofs.Common.{ℕ, zero, suc, ◌+◌, ◌-◌, ◌*◌, ◌<◌, ◌≤◌, List, [], ◌∷◌, ◌≡◌, refl, sym, ap, subst, ◌∙◌, length, get_or, take, get_or-take, arith}
 use Rattle.types.specs.declared.InlineFrame.{InlineFrame}
 use Rattle.inline.specs.Store.{flat, frame_at, frames_in}
 use Rattle.inline.proofs.Stores.{frames-length, frames-flat}

@@ -1,14 +1,7 @@
 -- Rows and frames are heard apart: where all items read, the row is that of the line blocks alone and the frames are
 -- those of the inline blocks alone; a fault is one of either.
 -- Assumes nothing.
-use Rattle.std.proofs.Common.{Some, None, Ok, Err, Option, Result}
-use Prim.Native.Nat.{ℕ}
-use mathlib.Core.Bool.{Bool, true, false}
-use mathlib.Core.List.{List, [], ◌∷◌}
-use mathlib.Core.Path.{◌≡◌, refl, sym, ap, ◌∙◌}
-use mathlib.Core.Logic.{◌⊎◌, inl, inr}
-use lib.Dec.{eqb}
-use Rattle.reads.specs.Pick.{pick}
+use Rattle.std.proofs.Common.{Some, None, Ok, Err, Option, Result, ℕ, Bool, true, false, List, [], ◌∷◌, ◌≡◌, refl, sym, ap, ◌∙◌, ◌⊎◌, inl, inr, eqb, if◌then◌else◌}
 use Rattle.types.specs.declared.InlineFrame.{InlineFrame}
 use Rattle.linetab.specs.Rows.{line_row}
 use Rattle.inline.specs.Block.{Block, listed, refused, block_of}
@@ -33,7 +26,7 @@ as_row (Err c) = unread
 unfoldable pub row_after : Ask → Piece → Option LineTableRow → RowKnown
 row_after q p (Some r) = row (Some r)
 row_after q p None =
-    pick (eqb p.kind 1) (as_row (line_row p.bytes q.symbol q.addr)) (row None)
+    if eqb p.kind 1 then as_row (line_row p.bytes q.symbol q.addr) else row None
 
 abbrev pub then_row : (Option LineTableRow → RowKnown) → RowKnown → RowKnown
 then_row go (row r) = go r
@@ -52,7 +45,7 @@ block_in q p = block_of q.symbol.0 q.addr.0 q.room p.bytes
 -- after an item
 unfoldable pub frames_after : Ask → Piece → List InlineFrame → Block
 frames_after q p (f ∷ fs) = listed (f ∷ fs)
-frames_after q p [] = pick (eqb p.kind 2) (pick q.inlining (block_in q p) (listed [])) (listed [])
+frames_after q p [] = if eqb p.kind 2 then if q.inlining then block_in q p else listed [] else listed []
 
 abbrev pub then_frames : (List InlineFrame → Block) → Block → Block
 then_frames go (listed fs) = go fs
@@ -79,8 +72,8 @@ row-after q p go (Some r) = refl
 row-after q p go None = by_kind (eqb p.kind 1)
   where
     by_kind : (t : Bool) →
-        pick t (after_line go (line_row p.bytes q.symbol q.addr)) (go None)
-        ≡ on_row go (pick t (as_row (line_row p.bytes q.symbol q.addr)) (row None))
+        (if t then after_line go (line_row p.bytes q.symbol q.addr) else go None)
+        ≡ on_row go (if t then as_row (line_row p.bytes q.symbol q.addr) else row None)
     by_kind true = line-row go (line_row p.bytes q.symbol q.addr)
     by_kind false = refl
 
@@ -91,8 +84,8 @@ frames-after q p go (f ∷ fs) = refl
 frames-after q p go [] = by_tests (eqb p.kind 2) q.inlining
   where
     by_tests : (t u : Bool) →
-        pick t (pick u (after_block go (block_in q p)) (go [])) (go [])
-        ≡ after_block go (pick t (pick u (block_in q p) (listed [])) (listed []))
+        (if t then if u then after_block go (block_in q p) else go [] else go [])
+        ≡ after_block go (if t then if u then block_in q p else listed [] else listed [])
     by_tests true true = refl
     by_tests true false = refl
     by_tests false u = refl
@@ -189,7 +182,7 @@ unfolding frames_after
 frame_off q p (f ∷ fs) h = refl
 frame_off q p [] h = rw h (by_kind (eqb p.kind 2))
   where
-    by_kind : (t : Bool) → pick t (listed []) (listed []) ≡ listed []
+    by_kind : (t : Bool) → (if t then listed [] else listed []) ≡ listed []
     by_kind true = refl
     by_kind false = refl
 

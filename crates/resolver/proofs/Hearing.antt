@@ -1,16 +1,7 @@
 -- The items of an entry after a row and frames known so far: each way that `code_in` goes on or out, on plain values.
 -- Assumes nothing.
-use Rattle.std.proofs.Common.{Some, None, Ok, Err, Option, Result, IsTrue, is_some}
-use Prim.Native.Nat.{ℕ, ◌<◌, ◌≤◌}
-use mathlib.Core.Bool.{Bool, true, false}
-use mathlib.Core.List.{List, [], ◌∷◌}
-use mathlib.Core.Path.{◌≡◌, refl, subst, ◌∙◌}
-use lib.Dec.{eqb}
-use lib.ListN.{length}
-use native.Mathlib.Omega.{arith}
-use borrow.Author.Tests.{eq-eqb, ne_eqb}
+use Rattle.std.proofs.Common.{Some, None, Ok, Err, Option, Result, IsTrue, is_some, ℕ, ◌<◌, ◌≤◌, Bool, true, false, List, [], ◌∷◌, ◌≡◌, refl, subst, ◌∙◌, eqb, length, arith, eq-eqb, ne_eqb, if◌then◌else◌}
 use Rattle.std.proofs.lemmas.Bool.{false≢true}
-use Rattle.reads.specs.Pick.{pick}
 use Rattle.types.specs.declared.Address.{Address}
 use Rattle.types.specs.declared.InlineFrame.{InlineFrame}
 use Rattle.linetab.specs.declared.LineTableRow.{LineTableRow}
@@ -130,7 +121,7 @@ module _ (q : Ask) (p : Piece) where
   row-roomy go (Some r) h = h (Some r)
   row-roomy go None h = tested (eqb p.kind 1) (line_row p.bytes q.symbol q.addr)
     where
-      tested : (b : Bool) (l : Result (Option LineTableRow) Cause) → Roomy q.room (pick b (after_line go l) (go None))
+      tested : (b : Bool) (l : Result (Option LineTableRow) Cause) → Roomy q.room (if b then after_line go l else go None)
       tested false l = h None
       tested true (Ok r) = h r
       tested true (Err c) = omega arith
@@ -146,7 +137,7 @@ module _ (q : Ask) (p : Piece) where
     where
       tested :
           (b c : Bool) (k : Block) → block_of q.symbol.0 q.addr.0 q.room p.bytes ≡ k →
-          Roomy q.room (pick b (pick c (after_block go k) (go [])) (go []))
+          Roomy q.room (if b then if c then after_block go k else go [] else go [])
       tested false c k e = h [] l
       tested true false k e = h [] l
       tested true true (listed fs) e = h fs (block_room q.symbol.0 q.addr.0 q.room p.bytes fs e)

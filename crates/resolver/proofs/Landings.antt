@@ -1,11 +1,6 @@
 -- Where an address lands: each way out of the code is the case of its definition; and what the whole lookup says by it.
 -- Assumes nothing.
-use Rattle.std.proofs.Common.{Some, None, Ok, Err, Option, Result}
-use Prim.Native.Nat.{ℕ}
-use mathlib.Core.Bool.{Bool, true, false}
-use mathlib.Core.List.{List}
-use mathlib.Core.Path.{◌≡◌, refl, ap, sym}
-use Rattle.reads.specs.Pick.{pick}
+use Rattle.std.proofs.Common.{Some, None, Ok, Err, Option, Result, ℕ, Bool, true, false, List, ◌≡◌, refl, ap, sym, if◌then◌else◌}
 use Rattle.types.specs.declared.Address.{Address}
 use Rattle.types.specs.declared.Options.{Options}
 use Rattle.types.specs.declared.Text.{Text}
@@ -133,7 +128,7 @@ module _ (file : List ℕ) (addr : Address) (u : Tables) (d : Entry) where
 
         by_size :
             (b : Bool) → covered_by addr (symbol_at file t i) a.size ≡ b →
-            land_on t (pick b (on_name (symbol_at file t i) a (name_at file t.strings a.name)) (Err 1))
+            land_on t (if b then on_name (symbol_at file t i) a (name_at file t.strings a.name) else Err 1)
             ≡ Ok (u, d) →
             Landed file addr u d
         by_size true c h = by_name c (name_at file t.strings a.name) refl h
@@ -182,7 +177,7 @@ module _ (file : List ℕ) (addr : Address) (k : ℕ) (p : Options) (room : ℕ)
 
       no_cover :
           (b : Bool) → covered_by addr symbol a.size ≡ b →
-          land_on t (pick b (on_name symbol a (name_at file t.strings a.name)) (Err 1)) ≡ Err k →
+          land_on t (if b then on_name symbol a (name_at file t.strings a.name) else Err 1) ≡ Err k →
           answer_of file t symbol addr p room (is (data_from file a)) ≡ refusing k
       unfolding answer_of say_of spell
       no_cover true c h = no_name c (name_at file t.strings a.name) refl h

@@ -1,12 +1,7 @@
 -- The later frames as records: the seven stores of one, and the loop that lifts them (`put_row` and `rise`).
 -- Assumes nothing.
-use Rattle.std.proofs.Common.{Ok, Err, Result}
-use Prim.Native.Nat.{ℕ, suc, ◌+◌, ◌-◌, ◌*◌, ◌<◌, ◌≤◌}
-use mathlib.Core.List.{List, [], ◌∷◌, ◌++◌, append_assoc}
-use mathlib.Core.Path.{◌≡◌, refl, sym, ap, subst, ◌∙◌}
-use lib.ListN.{length, set, take, drop, length-append}
-use lib.Seq.{sets, sets-eq, length-sets, length-take-le, take_at}
-use native.Mathlib.Omega.{arith}
+use Rattle.std.proofs.Common.{Ok, Err, Result, ℕ, suc, ◌+◌, ◌-◌, ◌*◌, ◌<◌, ◌≤◌, List, [], ◌∷◌, ◌++◌, append_assoc, ◌≡◌, refl, sym, ap, subst, ◌∙◌, length, set, take, drop, length-append, length-take-le, take_at, arith}
+use lib.Seq.{sets, sets-eq, length-sets}
 use Rattle.types.specs.declared.Text.{Text}
 use Rattle.types.specs.declared.Frame.{Frame}
 use Rattle.inline.specs.Store.{frame_at}

@@ -1,13 +1,6 @@
 -- More room changes nothing but 14: a lookup with less room either refuses with 14, or is the lookup with more.
 -- Assumes nothing.
-use Rattle.std.proofs.Common.{Some, None, Ok, Err, Option, Result}
-use Prim.Native.Nat.{ℕ, ◌≤◌}
-use mathlib.Core.Bool.{Bool, true, false}
-use mathlib.Core.List.{List, [], ◌∷◌}
-use mathlib.Core.Logic.{◌⊎◌, inl, inr}
-use mathlib.Core.Path.{◌≡◌, refl, sym, ap, subst}
-use lib.Dec.{eqb}
-use Rattle.reads.specs.Pick.{pick}
+use Rattle.std.proofs.Common.{Some, None, Ok, Err, Option, Result, ℕ, ◌≤◌, Bool, true, false, List, [], ◌∷◌, ◌⊎◌, inl, inr, ◌≡◌, refl, sym, ap, subst, eqb, if◌then◌else◌}
 use Rattle.types.specs.declared.Address.{Address}
 use Rattle.types.specs.declared.Options.{Options}
 use Rattle.types.specs.declared.InlineFrame.{InlineFrame}
@@ -31,7 +24,7 @@ use Rattle.leb128.specs.declared.Cause.{Cause}
 abbrev Or : {A : Type 0} → A → A → A → Type 0
 Or out less more = (less ≡ out) ⊎ (less ≡ more)
 
-pick-or : {A : Type 0} (out : A) (b : Bool) (x y v w : A) → Or out x v → Or out y w → Or out (pick b x y) (pick b v w)
+pick-or : {A : Type 0} (out : A) (b : Bool) (x y v w : A) → Or out x v → Or out y w → Or out (if b then x else y) (if b then v else w)
 pick-or out true x y v w g h = g
 pick-or out false x y v w g h = h
 

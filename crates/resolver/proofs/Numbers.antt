@@ -1,16 +1,7 @@
 -- Which numbers a lookup can give: at most 14, at most 6 without code info, at most 9 without inlining; and which of
 -- them come from which stage.
 -- Assumes nothing.
-use Rattle.std.proofs.Common.{Some, None, Ok, Err, Option, Result}
-use Prim.Native.Nat.{ℕ, ◌+◌, ◌*◌, ◌≤◌, ◌<◌}
-use mathlib.Core.Bool.{Bool, true, false}
-use mathlib.Core.List.{List}
-use mathlib.Core.Path.{◌≡◌, refl}
-use mathlib.Core.Logic.{◌⊎◌, inl, inr, ⊎_elim}
-use lib.Dec.{leb, eqb}
-use lib.ListN.{length}
-use native.Mathlib.Omega.{arith}
-use Rattle.reads.specs.Pick.{pick}
+use Rattle.std.proofs.Common.{Some, None, Ok, Err, Option, Result, ℕ, ◌+◌, ◌*◌, ◌≤◌, ◌<◌, Bool, true, false, List, ◌≡◌, refl, ◌⊎◌, inl, inr, ⊎_elim, leb, eqb, length, arith, if◌then◌else◌}
 use Rattle.reads.specs.Answers.{u16_at, u32_at}
 use Rattle.std.proofs.lemmas.Bool.{cases_lt}
 use Rattle.types.specs.declared.Address.{Address}
@@ -43,9 +34,9 @@ is-opens t n e = never (let z : ◌≡◌ {A = ℕ} 0 1 = cc in z)
 refused-opens : (m : ℕ) → 2 ≤ m → m ≤ 4 → Opens (Err m)
 refused-opens m l h n e = let q : m ≡ n = cc in (omega arith, omega arith)
 
-pick-opens : (b : Bool) (x y : Result Tables ℕ) → Opens x → Opens y → Opens (pick b x y)
-pick-opens true x y h k = h
-pick-opens false x y h k = k
+if-opens : (b : Bool) (x y : Result Tables ℕ) → Opens x → Opens y → Opens (if b then x else y)
+if-opens true x y h k = h
+if-opens false x y h k = k
 
 module _ (file : List ℕ) where
   two : Opens (Err 2)
@@ -55,16 +46,16 @@ module _ (file : List ℕ) where
   unfolding with_files
   files-opens n =
       let h = numbers_of file in
-      pick-opens (leb (files_place h + n * 8) (length file)) _ _
-      (pick-opens (leb (h.strings_offset + h.strings_size) (length file)) _ _ (is-opens (tables_with h n)) two)
+      if-opens (leb (files_place h + n * 8) (length file)) _ _
+      (if-opens (leb (h.strings_offset + h.strings_size) (length file)) _ _ (is-opens (tables_with h n)) two)
       two
 
   version-opens : (r : Option ℕ) → Opens (on_version file r)
   unfolding on_version after_version tables_of
   version-opens (Some v) =
-      pick-opens (eqb v 1) _ _
-      (pick-opens (leb 48 (length file)) _ _
-      (pick-opens (leb (files_place (numbers_of file)) (length file)) _ _
+      if-opens (eqb v 1) _ _
+      (if-opens (leb 48 (length file)) _ _
+      (if-opens (leb (files_place (numbers_of file)) (length file)) _ _
       (files-opens (num_at 4 file (file_count_place (numbers_of file)))) two) two)
       (refused-opens 4 (omega arith) (omega arith))
   version-opens None = two
@@ -72,7 +63,7 @@ module _ (file : List ℕ) where
   magic-opens : (r : Option ℕ) → Opens (on_magic file r)
   unfolding on_magic
   magic-opens (Some m) =
-      pick-opens (eqb m 0x4753594d) _ _ (version-opens (u16_at file 4)) (refused-opens 3 (omega arith) (omega arith))
+      if-opens (eqb m 0x4753594d) _ _ (version-opens (u16_at file 4)) (refused-opens 3 (omega arith) (omega arith))
   magic-opens None = two
 
   pub opened-no : (n : ℕ) → opened_of file ≡ Err n → (2 ≤ n) × (n ≤ 4)

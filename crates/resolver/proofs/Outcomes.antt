@@ -1,11 +1,6 @@
 -- The two ways out of a lookup: a refusal, or what the found entry says; and how what an entry says is made.
 -- Assumes nothing.
-use Rattle.std.proofs.Common.{Some, None, Ok, Err, Option, Result}
-use Prim.Native.Nat.{ℕ}
-use mathlib.Core.Bool.{Bool, true, false}
-use mathlib.Core.List.{List, [], ◌∷◌}
-use mathlib.Core.Path.{◌≡◌, refl, ap, ◌∙◌}
-use Rattle.reads.specs.Pick.{pick}
+use Rattle.std.proofs.Common.{Some, None, Ok, Err, Option, Result, ℕ, Bool, true, false, List, [], ◌∷◌, ◌≡◌, refl, ap, ◌∙◌, if◌then◌else◌}
 use Rattle.types.specs.declared.Address.{Address}
 use Rattle.types.specs.declared.Options.{Options}
 use Rattle.types.specs.declared.InlineFrame.{InlineFrame}
@@ -69,7 +64,7 @@ module _ (b : Book) (symbol : Address) (d : Data) (addr : Address) (o : Options)
       frames-made r (f ∷ fs) h (is s) k e = by_name (reads_name b f.name.0) refl (calls_of b fs) refl e
         where
           by_name : (t : Bool) → reads_name b f.name.0 ≡ t → (c : Calls) → calls_of b fs ≡ c →
-              pick t (with_calls d.size f.name.0 s c) (refuses 6) ≡ says size name p cs → Made
+              (if t then with_calls d.size f.name.0 s c else refuses 6) ≡ says size name p cs → Made
           by_name false n c q e = never (let z : ◌≡◌ {A = ℕ} 0 1 = cc in z)
           by_name true n (no m) q e = never (let z : ◌≡◌ {A = ℕ} 0 1 = cc in z)
           by_name true n (calls ds) q e = (cc, with-frames r f fs s ds A h k n q (cc) (cc) (cc))
@@ -94,7 +89,7 @@ module _ (b : Book) (symbol : Address) (d : Data) (addr : Address) (o : Options)
     say-saying e = go (covered_by addr symbol d.size) refl (reads_name b d.name) refl e
       where
         go : (t : Bool) → covered_by addr symbol d.size ≡ t → (u : Bool) → reads_name b d.name ≡ u →
-            pick t (pick u (say_more b d (ask symbol addr room o.inlining) o.code_info) (refuses 6)) (refuses 1)
+            (if t then if u then say_more b d (ask symbol addr room o.inlining) o.code_info else refuses 6 else refuses 1)
             ≡ says size name p cs →
             Made
         go false c u m e = never (let z : ◌≡◌ {A = ℕ} 0 1 = cc in z)

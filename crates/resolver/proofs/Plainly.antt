@@ -1,10 +1,6 @@
 -- The lookup without inlined calls: what the stages answer is the whole lookup's answer.
 -- Assumes nothing.
-use Rattle.std.proofs.Common.{Some, None, Ok, Err, Option, Result}
-use Prim.Native.Nat.{ℕ}
-use mathlib.Core.Bool.{Bool, true, false}
-use mathlib.Core.List.{List, []}
-use mathlib.Core.Path.{◌≡◌, refl, ap, sym, ◌∙◌}
+use Rattle.std.proofs.Common.{Some, None, Ok, Err, Option, Result, ℕ, Bool, true, false, List, [], ◌≡◌, refl, ap, sym, ◌∙◌}
 use Rattle.types.specs.declared.Address.{Address}
 use Rattle.types.specs.Refusal.{refusal}
 use Rattle.linetab.specs.declared.LineTableRow.{LineTableRow}

@@ -1,9 +1,6 @@
 -- Source positions: each way out of the code is the case of its definition.
 -- Assumes nothing.
-use Rattle.std.proofs.Common.{Some, None, Ok, Err, Option}
-use Prim.Native.Nat.{ℕ}
-use mathlib.Core.List.{List}
-use mathlib.Core.Path.{◌≡◌, sym, ◌∙◌}
+use Rattle.std.proofs.Common.{Some, None, Ok, Err, Option, ℕ, List, ◌≡◌, sym, ◌∙◌}
 use Rattle.types.specs.declared.FileIndex.{FileIndex}
 use Rattle.types.specs.declared.LineNumber.{LineNumber}
 use Rattle.types.specs.declared.Text.{Text}

@@ -1,9 +1,7 @@
 -- Positions move up one: the sites of the symbol and the later frames are the frames' own call sites and then the
 -- row's, under unchanged names. That settles every position.
 -- Assumes nothing.
-use Prim.Native.Nat.{ℕ}
-use mathlib.Core.List.{List, [], ◌∷◌, ◌++◌, map}
-use mathlib.Core.Path.{◌≡◌, refl, ap}
+use Rattle.std.proofs.Common.{ℕ, List, [], ◌∷◌, ◌++◌, map, ◌≡◌, refl, ap}
 use Rattle.resolver.specs.Says.{Site, Call, upper, raised}
 
 abbrev pub site_of_call : Call → Site

@@ -1,13 +1,7 @@
--- Each refusal is given exactly when its cause is met, the first in document 01's order, and it is its number, zeros
+-- Each refusal is given exactly when its cause is met, the first in the order of RULES, and it is its number, zeros
 -- and no records.
 -- Assumes nothing.
-use Rattle.std.proofs.Common.{Some, None, Ok, Err, Option, Result}
-use Prim.Native.Nat.{ℕ, ◌<◌}
-use mathlib.Core.Bool.{Bool, true, false}
-use mathlib.Core.List.{List, [], ◌∷◌}
-use mathlib.Core.Path.{◌≡◌, refl, sym, ap, ◌∙◌}
-use native.Mathlib.Omega.{arith}
-use Rattle.reads.specs.Pick.{pick}
+use Rattle.std.proofs.Common.{Some, None, Ok, Err, Option, Result, ℕ, ◌<◌, Bool, true, false, List, [], ◌∷◌, ◌≡◌, refl, sym, ap, ◌∙◌, arith, if◌then◌else◌}
 use Rattle.types.specs.declared.Address.{Address}
 use Rattle.types.specs.declared.Options.{Options}
 use Rattle.types.specs.declared.InlineFrame.{InlineFrame}
@@ -40,7 +34,7 @@ pub record Asked (b : Book) (symbol : Address) (d : Data) (addr : Address) (o : 
   pub named : reads_name b d.name ≡ true
   pub code : o.code_info ≡ true
 
--- why what an entry says is a refusal, in document 01's order
+-- why what an entry says is a refusal, in the order of RULES
 pub data Unsaid (b : Book) (symbol : Address) (d : Data) (addr : Address) (o : Options) (room n : ℕ) : Type 0 where
   uncovered : covered_by addr symbol d.size ≡ false → n ≡ 1 → Unsaid b symbol d addr o room n
   unnamed : covered_by addr symbol d.size ≡ true → reads_name b d.name ≡ false → n ≡ 6 →
@@ -58,7 +52,7 @@ pub data Unsaid (b : Book) (symbol : Address) (d : Data) (addr : Address) (o : O
       site_of b r.file_idx.0 r.file_line.0 ≡ is s → reads_name b f.name.0 ≡ true →
       FirstUncalled b fs n → Unsaid b symbol d addr o room n
 
--- why a lookup is a refusal, in document 01's order
+-- why a lookup is a refusal, in the order of RULES
 pub data Met (file : List ℕ) (addr : Address) (o : Options) (room n : ℕ) : Type 0 where
   unopened : opened_of file ≡ Err n → Met file addr o room n
   nowhere : (t : Tables) → opened_of file ≡ Ok t → Nowhere file t addr → n ≡ 1 → Met file addr o room n
@@ -95,7 +89,7 @@ module _ (b : Book) (symbol : Address) (d : Data) (addr : Address) (o : Options)
     frames-unsaid r (f ∷ fs) h (is s) p e = by_name (reads_name b f.name.0) refl (calls_of b fs) refl e
       where
         by_name : (t : Bool) → reads_name b f.name.0 ≡ t → (k : Calls) → calls_of b fs ≡ k →
-            pick t (with_calls d.size f.name.0 s k) (refuses 6) ≡ refuses n → Unsaid b symbol d addr o room n
+            (if t then with_calls d.size f.name.0 s k else refuses 6) ≡ refuses n → Unsaid b symbol d addr o room n
         by_name false m k c e = first-unnamed r f fs s A h p m cc
         by_name true m (calls cs) c e = never (let z : ◌≡◌ {A = ℕ} 0 1 = cc in z)
         by_name true m (no j) c e =
@@ -123,7 +117,7 @@ module _ (b : Book) (symbol : Address) (d : Data) (addr : Address) (o : Options)
   say-unsaid e = go (covered_by addr symbol d.size) refl (reads_name b d.name) refl e
     where
       go : (t : Bool) → covered_by addr symbol d.size ≡ t → (u : Bool) → reads_name b d.name ≡ u →
-          pick t (pick u (say_more b d (ask symbol addr room o.inlining) o.code_info) (refuses 6)) (refuses 1)
+          (if t then if u then say_more b d (ask symbol addr room o.inlining) o.code_info else refuses 6 else refuses 1)
           ≡ refuses n →
           Unsaid b symbol d addr o room n
       go false c u m e = uncovered c cc

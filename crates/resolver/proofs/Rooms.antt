@@ -1,17 +1,9 @@
 -- The count is the number of records, and records are fewer than the room, which counts the block's first frame as
 -- well; without inlining or code info there are none.
 -- Assumes nothing.
-use Rattle.std.proofs.Common.{Some, None}
-use Prim.Native.Nat.{ℕ, suc, ◌+◌, ◌*◌, ◌≤◌}
-use mathlib.Core.Bool.{Bool, true, false}
-use mathlib.Core.List.{List, [], ◌∷◌, map}
-use mathlib.Core.Path.{◌≡◌, refl, sym, ap, ◌∙◌}
-use mathlib.Core.Logic.{◌⊎◌, inl, inr, ⊎_elim}
-use lib.ListN.{length}
-use native.Mathlib.Omega.{arith}
+use Rattle.std.proofs.Common.{Some, None, ℕ, suc, ◌+◌, ◌*◌, ◌≤◌, Bool, true, false, List, [], ◌∷◌, map, ◌≡◌, refl, sym, ap, ◌∙◌, ◌⊎◌, inl, inr, ⊎_elim, length, arith, if◌then◌else◌}
 use Rattle.types.specs.declared.Address.{Address}
 use Rattle.types.specs.declared.Options.{Options}
-use Rattle.reads.specs.Pick.{pick}
 use Rattle.types.specs.declared.InlineFrame.{InlineFrame}
 use Rattle.inline.proofs.Numbers.{never}
 use Rattle.inline.proofs.Answers.{block_room}
@@ -43,7 +35,7 @@ length-calls b (f ∷ fs) cs e =
     refl e
   where
     go : ((cs : List Call) → calls_of b fs ≡ calls cs → length cs ≡ length fs) → (t : Bool) (k : SiteRead) (r : Calls) →
-        calls_of b fs ≡ r → pick t (with_site f.name.0 r k) (no 6) ≡ calls cs → length cs ≡ suc (length fs)
+        calls_of b fs ≡ r → (if t then with_site f.name.0 r k else no 6) ≡ calls cs → length cs ≡ suc (length fs)
     go rest false k r q e = never (let z : ◌≡◌ {A = ℕ} 0 1 = cc in z)
     go rest true (no m) r q e = never (let z : ◌≡◌ {A = ℕ} 0 1 = cc in z)
     go rest true (is s) (no m) q e = never (let z : ◌≡◌ {A = ℕ} 0 1 = cc in z)

@@ -1,17 +1,9 @@
 -- The row of an entry where no frames are wanted: what is heard then is a row and no frames, or that a line block's
 -- header doesn't read; a row that is known stays, so the items behind it need not be read.
 -- Assumes nothing.
-use Rattle.std.proofs.Common.{Some, None, Ok, Err, Option, Result, IsTrue, IsFalse, is_some}
+use Rattle.std.proofs.Common.{Some, None, Ok, Err, Option, Result, IsTrue, IsFalse, is_some, ℕ, ◌+◌, ◌-◌, Bool, true, false, List, [], ◌∷◌, ◌≡◌, refl, ap, sym, ◌∙◌, eqb, take, drop, eq-eqb, ne_eqb, if◌then◌else◌, cond}
 use Rattle.std.proofs.lemmas.Bool.{false≢true}
-use Prim.Native.Nat.{ℕ, ◌+◌, ◌-◌}
-use mathlib.Core.Bool.{Bool, true, false}
-use mathlib.Core.List.{List, [], ◌∷◌}
-use mathlib.Core.Path.{◌≡◌, refl, ap, sym, ◌∙◌}
-use lib.Dec.{eqb}
-use lib.ListN.{take, drop}
 use native.Mathlib.Nat.{add-sub_cancel_left}
-use borrow.Author.Tests.{eq-eqb, ne_eqb}
-use Rattle.reads.specs.Pick.{pick}
 use Rattle.types.specs.declared.Address.{Address}
 use Rattle.types.specs.declared.InlineFrame.{InlineFrame}
 use Rattle.linetab.specs.declared.LineTableRow.{LineTableRow}
@@ -26,7 +18,7 @@ use Rattle.resolver.proofs.Pieces.{items-is, items-closed, items-torn}
 use Rattle.leb128.specs.declared.Cause.{Cause}
 
 -- a test that doesn't matter
-either : {A : Type 0} (b : Bool) (x : A) → pick b x x ≡ x
+either : {A : Type 0} (b : Bool) (x : A) → (if b then x else x) ≡ x
 either true x = refl
 either false x = refl
 
@@ -55,12 +47,12 @@ module _ (symbol addr : Address) where
 
   one : (p : Piece) (ps : List Piece) →
       hear quietly (p ∷ ps) None []
-      ≡ pick (eqb p.kind 1) (after_line (onward ps) (line_row p.bytes symbol addr)) (onward ps None)
+      ≡ (if eqb p.kind 1 then after_line (onward ps) (line_row p.bytes symbol addr) else onward ps None)
   unfolding hear hear_row
   one p ps =
-      ap (λ x. pick (eqb p.kind 1) x (hear_frames quietly p (λ fs. hear quietly ps None fs) []))
+      ap (λ x. if eqb p.kind 1 then x else hear_frames quietly p (λ fs. hear quietly ps None fs) [])
       (by (line_row p.bytes symbol addr))
-      ∙ ap (pick (eqb p.kind 1) (after_line (onward ps) (line_row p.bytes symbol addr)))
+      ∙ ap (cond (eqb p.kind 1) (after_line (onward ps) (line_row p.bytes symbol addr)))
       (no_frames p (λ fs. hear quietly ps None fs))
     where
       by : (l : Result (Option LineTableRow) Cause) →
@@ -78,7 +70,7 @@ module _ (symbol addr : Address) where
   line_quiet (Ok None) ps h = h
   line_quiet (Err c) ps h = unread
 
-  if-quiet : (b : Bool) (x y : Heard) → Quiet x → Quiet y → Quiet (pick b x y)
+  if-quiet : (b : Bool) (x y : Heard) → Quiet x → Quiet y → Quiet (if b then x else y)
   if-quiet true x y p q = p
   if-quiet false x y p q = q
 
@@ -111,8 +103,8 @@ module _ (file : List ℕ) (symbol addr : Address) (at : ℕ) where
 
     here :
         row_in symbol addr (items_at file at).list
-        ≡ row_heard (pick (eqb kind 1) (after_line (onward symbol addr rest) (line_row bytes symbol addr))
-        (onward symbol addr rest None))
+        ≡ row_heard (if eqb kind 1 then after_line (onward symbol addr rest) (line_row bytes symbol addr)
+        else onward symbol addr rest None)
     unfolding row_in
     here = rw (items-is file at kind place len next e) (ap row_heard (one symbol addr (piece kind bytes) rest))
 

@@ -1,13 +1,7 @@
 -- The loop of `code_in`, a turn for each kind of item: what the items say from the start is what those ahead say after
 -- the row and the frames known so far.
 -- Assumes nothing.
-use Rattle.std.proofs.Common.{None, Ok, Err, Option, Result}
-use Prim.Native.Nat.{ℕ, ◌+◌, ◌-◌, ◌*◌, ◌/◌, ◌<◌, ◌≤◌, min}
-use mathlib.Core.Bool.{true}
-use mathlib.Core.List.{List, [], ◌∷◌}
-use mathlib.Core.Path.{◌≡◌, refl, sym, ap, subst, ◌∙◌}
-use lib.ListN.{length, take, drop}
-use native.Mathlib.Omega.{arith}
+use Rattle.std.proofs.Common.{None, Ok, Err, Option, Result, ℕ, ◌+◌, ◌-◌, ◌*◌, ◌/◌, ◌<◌, ◌≤◌, min, true, List, [], ◌∷◌, ◌≡◌, refl, sym, ap, subst, ◌∙◌, length, take, drop, arith}
 use Rattle.types.specs.declared.Address.{Address}
 use Rattle.types.specs.declared.InlineFrame.{InlineFrame}
 use Rattle.inline.specs.Block.{block_of, frames_of, room_of, Lists}

@@ -1,12 +1,6 @@
 -- The whole lookup with frames from its stages: each way out of `with_frames` and of `lookup_frames`.
 -- Assumes nothing.
-use Rattle.std.proofs.Common.{Some, None, Ok, Err, Option, Result}
-use Prim.Native.Nat.{ℕ, ◌*◌, ◌/◌, ◌≤◌, min}
-use mathlib.Core.Bool.{true}
-use mathlib.Core.List.{List, []}
-use mathlib.Core.Path.{◌≡◌, refl, sym, ap, subst, ◌∙◌}
-use lib.ListN.{length, take, length-take}
-use native.Mathlib.Omega.{arith}
+use Rattle.std.proofs.Common.{Some, None, Ok, Err, Option, Result, ℕ, ◌*◌, ◌/◌, ◌≤◌, min, true, List, [], ◌≡◌, refl, sym, ap, subst, ◌∙◌, length, take, length-take, arith}
 use Rattle.types.specs.declared.Address.{Address}
 use Rattle.types.specs.declared.Answer.{Answer}
 use Rattle.types.specs.Refusal.{refusal}

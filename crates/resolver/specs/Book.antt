@@ -1,5 +1,5 @@
 -- What all entries share, as a value without places: the string table's bytes, and directory and name of each file
--- (document 01, "Header and tables").
+-- (RULES, "Header and tables").
 -- Assumes nothing.
 use Rattle.std.specs.Prelude.{ℕ, zero, suc, Bool, true, false, List, [], ◌∷◌, take, drop, Some, None, Option}
 use Rattle.strtab.specs.Strings.{text_in, name_in}

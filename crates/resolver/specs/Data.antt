@@ -1,4 +1,4 @@
--- What an entry says, as a value without places (document 01, "Finding the entry" and "Address data list").
+-- What an entry says, as a value without places (RULES, "Finding the entry" and "Address data list").
 --
 --   size      4 bytes
 --   name      4          an offset in the string table

@@ -1,4 +1,4 @@
--- The marked examples T1 to T12 of document 01 as one statement about the written definitions.
+-- The marked examples T1 to T12 of RULES as one statement about the written definitions.
 -- Assumes nothing.
 use Rattle.std.specs.Prelude.{◌-◌, ◌^◌, [], ◌∷◌, ◌++◌, ◌≡◌, pos, neg_ℤ, replicate}
 use Rattle.leb128.specs.Leb.{number, wide, unsigned, signed}

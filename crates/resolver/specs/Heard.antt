@@ -1,8 +1,7 @@
--- What the items of an entry say at an address: a row and frames, or the first fault in list order (document 01,
+-- What the items of an entry say at an address: a row and frames, or the first fault in list order (RULES,
 -- "Address data list"). What reads a row never looks at frames, and the other way round.
 -- Assumes nothing.
-use Rattle.std.specs.Prelude.{ℕ, Bool, List, [], ◌∷◌, eqb, Some, None, Ok, Err, Option, Result}
-use Rattle.reads.specs.Pick.{pick}
+use Rattle.std.specs.Prelude.{ℕ, Bool, List, [], ◌∷◌, eqb, Some, None, Ok, Err, Option, Result, if◌then◌else◌}
 use Rattle.types.specs.declared.Address.{Address}
 use Rattle.types.specs.declared.InlineFrame.{InlineFrame}
 use Rattle.linetab.specs.Rows.{line_row}
@@ -39,7 +38,7 @@ after_line go (Err cause) = fault header_no
 unfoldable pub hear_row : Ask → Piece → (Option LineTableRow → Heard) → Option LineTableRow → Heard
 hear_row q p go (Some r) = go (Some r)
 hear_row q p go None =
-    pick (eqb p.kind 1) (after_line go (line_row p.bytes q.symbol q.addr)) (go None)
+    if eqb p.kind 1 then after_line go (line_row p.bytes q.symbol q.addr) else go None
 
 abbrev pub after_block : (List InlineFrame → Heard) → Block → Heard
 after_block go (listed fs) = go fs
@@ -49,9 +48,9 @@ after_block go (refused n) = fault n
 unfoldable pub hear_frames : Ask → Piece → (List InlineFrame → Heard) → List InlineFrame → Heard
 hear_frames q p go (f ∷ fs) = go (f ∷ fs)
 hear_frames q p go [] =
-    pick (eqb p.kind 2)
-    (pick q.inlining (after_block go (block_of q.symbol.0 q.addr.0 q.room p.bytes)) (go []))
-    (go [])
+    if eqb p.kind 2
+    then if q.inlining then after_block go (block_of q.symbol.0 q.addr.0 q.room p.bytes) else go []
+    else go []
 
 -- the items in list order, after a row and frames known so far
 unfoldable pub hear : Ask → List Piece → Option LineTableRow → List InlineFrame → Heard

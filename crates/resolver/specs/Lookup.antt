@@ -1,4 +1,4 @@
--- A whole lookup (document 01, in its order): the tables (2, 3, 4), the entry (1), and what the entry says.
+-- A whole lookup (RULES, in its order): the tables (2, 3, 4), the entry (1), and what the entry says.
 -- Assumes nothing.
 use Rattle.std.specs.Prelude.{ℕ, List, Some, None, Ok, Err, Option, Result}
 use Rattle.types.specs.declared.Address.{Address}

@@ -1,7 +1,6 @@
 -- The records of a lookup in a list of numbers, and what the stages that write them are held to.
 -- Assumes nothing.
-use Rattle.std.specs.Prelude.{ℕ, zero, suc, ◌+◌, ◌-◌, ◌*◌, ◌/◌, min, true, false, List, [], ◌∷◌, ◌++◌, ◌⊎◌, ◌≡◌, length, take, Some, None, Ok, Err, Option, Result}
-use Rattle.reads.specs.Pick.{pick}
+use Rattle.std.specs.Prelude.{ℕ, zero, suc, ◌+◌, ◌-◌, ◌*◌, ◌/◌, min, true, false, List, [], ◌∷◌, ◌++◌, ◌⊎◌, ◌≡◌, length, take, Some, None, Ok, Err, Option, Result, if◌then◌else◌}
 use Rattle.types.specs.declared.Address.{Address}
 use Rattle.types.specs.declared.Options.{Options}
 use Rattle.types.specs.declared.Text.{Text}
@@ -125,9 +124,9 @@ with_later file t e name row (f ∷ fs) = after_first file t e name row fs (call
 unfoldable pub with_named : List ℕ → Tables → Entry → Place → List InlineFrame → Looked
 with_named file t e row [] = record { answer = answer_with e e.name row 0; frames = [] }
 with_named file t e row (f ∷ fs) =
-    pick (reads_name (book_of file t) f.name.0)
-    (with_later file t e (spell_text (book_of file t) t.strings.place f.name.0) row fs)
-    (refusing 6)
+    if reads_name (book_of file t) f.name.0
+    then with_later file t e (spell_text (book_of file t) t.strings.place f.name.0) row fs
+    else refusing 6
 
 abbrev pub with_place : List ℕ → Tables → Entry → List InlineFrame → Result Place ℕ → Looked
 with_place file t e fs (Ok p) = with_named file t e p fs

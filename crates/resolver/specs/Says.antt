@@ -1,8 +1,7 @@
--- What an entry says at an address, with strings as offsets in the string table (document 01, from "If size is not 0"
+-- What an entry says at an address, with strings as offsets in the string table (RULES, from "If size is not 0"
 -- to the end of "Putting the answer together"). No place of the file is in it.
 -- Assumes nothing.
-use Rattle.std.specs.Prelude.{ℕ, Bool, true, false, List, [], ◌∷◌, Some, None, Option}
-use Rattle.reads.specs.Pick.{pick}
+use Rattle.std.specs.Prelude.{ℕ, Bool, true, false, List, [], ◌∷◌, Some, None, Option, if◌then◌else◌}
 use Rattle.types.specs.declared.Address.{Address}
 use Rattle.types.specs.declared.Options.{Options}
 use Rattle.types.specs.declared.InlineFrame.{InlineFrame}
@@ -44,9 +43,9 @@ site dir file line = record { dir = dir; file = file; line = line }
 -- directory, then file: 8
 unfoldable pub site_in : Book → ℕ → Option FileInfo → SiteRead
 site_in b line (Some r) =
-    pick (reads_text b r.directory.0)
-    (pick (reads_text b r.filename.0) (is (site r.directory.0 r.filename.0 line)) (no 8))
-    (no 8)
+    if reads_text b r.directory.0
+    then if reads_text b r.filename.0 then is (site r.directory.0 r.filename.0 line) else no 8
+    else no 8
 site_in b line None = no 7
 
 -- the position of a file index, 7 where it isn't below the file count, and a line
@@ -71,9 +70,9 @@ with_site name rest (no n) = no n
 unfoldable pub calls_of : Book → List InlineFrame → Calls
 calls_of b [] = calls []
 calls_of b (f ∷ fs) =
-    pick (reads_name b f.name.0)
-    (with_site f.name.0 (calls_of b fs) (site_of b f.call_file.0 f.call_line.0))
-    (no 6)
+    if reads_name b f.name.0
+    then with_site f.name.0 (calls_of b fs) (site_of b f.call_file.0 f.call_line.0)
+    else no 6
 
 -- positions move up one: the symbol gets the first later frame's call site, or the row's
 abbrev pub upper : Site → List Call → Site
@@ -96,7 +95,7 @@ unfoldable pub with_frames : Book → Data → List InlineFrame → SiteRead →
 with_frames b d fs (no n) = refuses n
 with_frames b d [] (is row) = says d.size d.name (at row) []
 with_frames b d (f ∷ fs) (is row) =
-    pick (reads_name b f.name.0) (with_calls d.size f.name.0 row (calls_of b fs)) (refuses 6)
+    if reads_name b f.name.0 then with_calls d.size f.name.0 row (calls_of b fs) else refuses 6
 
 -- no row: no position, no frames, name unchanged
 unfoldable pub after_heard : Book → Data → Heard → Said
@@ -112,6 +111,6 @@ say_more b d q false = says d.size d.name absent []
 -- what an entry says: the size rule (1), the name (6), and what is asked for
 unfoldable pub say_of : Book → Address → Data → Address → Options → ℕ → Said
 say_of b symbol d addr o room =
-    pick (covered_by addr symbol d.size)
-    (pick (reads_name b d.name) (say_more b d (ask symbol addr room o.inlining) o.code_info) (refuses 6))
-    (refuses 1)
+    if covered_by addr symbol d.size
+    then if reads_name b d.name then say_more b d (ask symbol addr room o.inlining) o.code_info else refuses 6
+    else refuses 1

@@ -1,7 +1,6 @@
 -- What each stage of a lookup answers, in the forms that the code hands on; laws say that they come to `lookup_of`.
 -- Assumes nothing.
-use Rattle.std.specs.Prelude.{ℕ, Bool, true, false, List, [], Some, None, Ok, Err, Option, Result}
-use Rattle.reads.specs.Pick.{pick}
+use Rattle.std.specs.Prelude.{ℕ, Bool, true, false, List, [], Some, None, Ok, Err, Option, Result, if◌then◌else◌}
 use Rattle.types.specs.declared.Address.{Address}
 use Rattle.types.specs.declared.Options.{Options}
 use Rattle.types.specs.declared.Text.{Text}
@@ -35,7 +34,7 @@ on_name symbol a None = Err 6
 
 unfoldable pub on_info : List ℕ → Tables → Address → Address → Option AddrInfo → Result Entry ℕ
 on_info file t symbol addr (Some a) =
-    pick (covered_by addr symbol a.size) (on_name symbol a (name_at file t.strings a.name)) (Err 1)
+    if covered_by addr symbol a.size then on_name symbol a (name_at file t.strings a.name) else Err 1
 on_info file t symbol addr None = Err 5
 
 -- an entry, for an address that landed there
@@ -88,10 +87,10 @@ at_call name (Err n) = Err n
 -- a frame's name, and the position of its call
 unfoldable pub call_at : List ℕ → Tables → InlineFrame → Result Frame ℕ
 call_at file t f =
-    pick (reads_name (book_of file t) f.name.0)
-    (at_call (spell_text (book_of file t) t.strings.place f.name.0)
-    (place_at file t f.call_file.0 f.call_line.0))
-    (Err 6)
+    if reads_name (book_of file t) f.name.0
+    then at_call (spell_text (book_of file t) t.strings.place f.name.0)
+    (place_at file t f.call_file.0 f.call_line.0)
+    else Err 6
 
 -- ---- rows and frames
 

@@ -1,4 +1,4 @@
-// The row and the frames of an entry's items (document 01, "Address data list"): line blocks are read while no row is
+// The row and the frames of an entry's items (RULES, "Address data list"): line blocks are read while no row is
 // known, inline blocks while no frame is. The first fault in list order refuses, even if no row comes later.
 ghost use Rattle.std.specs.Prelude.{◌≡◌};
 ghost use Rattle.resolver.specs.Data.{items_at};

@@ -1,5 +1,5 @@
 // Where an address lands: the tables (2, 3, 4), the entry (1), its information (5), its size (1) and its name (6), in
-// document 01's order ("Finding the entry").
+// the order of RULES ("Finding the entry").
 ghost use Rattle.std.specs.Prelude.{◌≡◌};
 ghost use Rattle.resolver.specs.Stages.{entry_at, landing_of};
 

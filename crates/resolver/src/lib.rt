@@ -1,4 +1,4 @@
-// Lookup (document 01, from "Header and tables" to "Putting the answer together"): the symbol of an address, its source
+// Lookup (RULES, from "Header and tables" to "Putting the answer together"): the symbol of an address, its source
 // position, and the calls inlined there, on any bytes. Each stage is a function with a definition of its own.
 //   landing   the tables, the entry of the address, its size and its name
 //   sites     source positions

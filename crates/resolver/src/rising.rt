@@ -1,4 +1,4 @@
-// The later frames of a block as records, with positions moved up one (document 01, "Putting the answer together"):
+// The later frames of a block as records, with positions moved up one (RULES, "Putting the answer together"):
 // each frame gets its successor's call site, the last the row's.
 ghost use Rattle.std.specs.Prelude.{◌≡◌, ◌+◌, ◌*◌, ◌≤◌, length};
 ghost use Rattle.parser.specs.Header.{Within};

@@ -1,4 +1,4 @@
-// The row of an entry's items where no frames are wanted (document 01, "Address data list"): the first line block that
+// The row of an entry's items where no frames are wanted (RULES, "Address data list"): the first line block that
 // has one. Later items can't refuse then, so they are not read.
 ghost use Rattle.std.specs.Prelude.{◌≡◌};
 ghost use Rattle.resolver.specs.Data.{items_at};

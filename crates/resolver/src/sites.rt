@@ -1,5 +1,5 @@
 // Source positions: a row of the file table, its directory and its file; and a frame with the position of its call
-// (document 01, "Putting the answer together"). Directories and files need not be UTF-8, names must.
+// (RULES, "Putting the answer together"). Directories and files need not be UTF-8, names must.
 ghost use Rattle.std.specs.Prelude.{◌≡◌, ◌+◌, ◌*◌, ◌≤◌, length};
 ghost use Rattle.parser.specs.Header.{Within};
 ghost use Rattle.inline.specs.Store.{frame_at};

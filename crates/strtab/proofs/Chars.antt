@@ -1,7 +1,6 @@
 -- UTF-8 one character at a time: what the length of a character says, and each way out of judging one.
 -- Assumes nothing.
-use Rattle.std.proofs.Common.{ℕ, suc, ◌+◌, ◌-◌, ◌≤◌, ◌<◌, Bool, true, false, true≢false, List, [], ◌∷◌, ◌≡◌, refl, ap, sym, ◌∙◌, ⊎_elim, length, get_or, take, drop, length-drop, drop_of_length-le, drop-cons, drop-drop, length-take-le, arith}
-use Rattle.reads.specs.Pick.{pick}
+use Rattle.std.proofs.Common.{ℕ, suc, ◌+◌, ◌-◌, ◌≤◌, ◌<◌, Bool, true, false, true≢false, List, [], ◌∷◌, ◌≡◌, refl, ap, sym, ◌∙◌, ⊎_elim, length, get_or, take, drop, length-drop, drop_of_length-le, drop-cons, drop-drop, length-take-le, arith, if◌then◌else◌}
 use Rattle.strtab.specs.Utf8.{Range, range, within, tail, Start, starts, nowhere, begun}
 use Rattle.strtab.specs.Utf8.{followers, octets, utf8, sequence_len}
 use Rattle.strtab.specs.Steps.{second, met, sized, char_len}
@@ -9,19 +8,19 @@ use Rattle.std.proofs.lemmas.Bool.{cases_lt}
 use Rattle.strtab.proofs.Ranges.{in-range}
 use Rattle.strtab.proofs.Leading.{shape, followers-shape, followers-ascii, sequence-len-le}
 
-chosen : (t m x y : Bool) → x ≡ pick m y false → pick t x false ≡ pick (pick t m false) y false
+chosen : (t m x y : Bool) → x ≡ (if m then y else false) → (if t then x else false) ≡ (if if t then m else false then y else false)
 chosen true m x y e = e
 chosen false m x y e = refl
 
 -- what is owed is met, and UTF-8 goes on after it
-octets-met : (rs : List Range) (bs : List ℕ) → octets rs bs ≡ pick (met rs bs) (utf8 (drop (length rs) bs)) false
+octets-met : (rs : List Range) (bs : List ℕ) → octets rs bs ≡ (if met rs bs then utf8 (drop (length rs) bs) else false)
 unfolding octets met utf8
 octets-met [] bs = refl
 octets-met (r ∷ rs) [] = refl
 octets-met (r ∷ rs) (b ∷ bs) =
     chosen (within r b) (met rs bs) (octets rs bs) (utf8 (drop (length rs) bs)) (octets-met rs bs)
 
-short : (t : Bool) (m : Bool) → m ≡ false → pick t m false ≡ false
+short : (t : Bool) (m : Bool) → m ≡ false → (if t then m else false) ≡ false
 short true m e = e
 short false m e = refl
 
@@ -33,12 +32,12 @@ met-short (r ∷ rs) (b ∷ bs) h = short (within r b) (met rs bs) (met-short rs
 
 -- a character's length and what follows, by what its first byte says
 module _ (bs : List ℕ) where
-  none-met : (t : Bool) (k : ℕ) (x : Bool) → pick t (suc k) 0 ≡ 0 → pick t x false ≡ false
+  none-met : (t : Bool) (k : ℕ) (x : Bool) → (if t then suc k else 0) ≡ 0 → (if t then x else false) ≡ false
   none-met true k x e = absurd (omega arith)
   none-met false k x e = refl
 
-  some-met : (t : Bool) (k n : ℕ) (x : Bool) → pick t (suc k) 0 ≡ n → 0 < n →
-      (pick t x false ≡ x) × (n ≡ suc k) × (t ≡ true)
+  some-met : (t : Bool) (k n : ℕ) (x : Bool) → (if t then suc k else 0) ≡ n → 0 < n →
+      ((if t then x else false) ≡ x) × (n ≡ suc k) × (t ≡ true)
   some-met true k n x e h = (refl, sym e, refl)
   some-met false k n x e h = absurd (omega arith)
 

@@ -1,14 +1,13 @@
 -- Counted bytes: a count goes by parts, and where all are counted a run goes on past them.
 -- Assumes nothing.
-use Rattle.std.proofs.Common.{ℕ, zero, suc, ◌+◌, ◌≤◌, ◌<◌, Bool, true, false, List, [], ◌∷◌, ◌≡◌, refl, ap, sym, ◌∙◌, length, get_or, drop, drop-cons, drop-drop, zero-add, suc-add, arith}
-use Rattle.reads.specs.Pick.{pick}
+use Rattle.std.proofs.Common.{ℕ, zero, suc, ◌+◌, ◌≤◌, ◌<◌, Bool, true, false, List, [], ◌∷◌, ◌≡◌, refl, ap, sym, ◌∙◌, length, get_or, drop, drop-cons, drop-drop, zero-add, suc-add, arith, if◌then◌else◌}
 use Rattle.strtab.specs.Utf8.{Range, within}
 use Rattle.strtab.specs.Steps.{run_len, count_in}
 use Rattle.strtab.proofs.Runs.{Skipped}
 
 -- a byte is counted as 1 or 0
 abbrev pub ones : Bool → ℕ
-ones t = pick t 1 0
+ones t = if t then 1 else 0
 
 ones-le : (t : Bool) → ones t ≤ 1
 ones-le true = omega arith
@@ -53,7 +52,7 @@ module _ (r : Range) where
   count-run (suc k) (b ∷ bs) e = go (within r b) (count-run k bs) e
     where
       go : (t : Bool) → (count_in r k bs ≡ k → run_len r bs ≡ k + run_len r (drop k bs)) →
-          ones t + count_in r k bs ≡ suc k → pick t (suc (run_len r bs)) 0 ≡ suc k + run_len r (drop k bs)
+          ones t + count_in r k bs ≡ suc k → (if t then suc (run_len r bs) else 0) ≡ suc k + run_len r (drop k bs)
       go true rest e = let h = rest (omega arith) in omega arith
       go false rest e = absurd (omega (arith, count-le k bs))
 

@@ -1,4 +1,4 @@
--- What a first byte says of its sequence: the rule of document 01 by ranges and the grammar of RFC 3629 are one.
+-- What a first byte says of its sequence: the table of RULES ("Strings") and the grammar of RFC 3629 are one.
 -- Assumes nothing.
 use Rattle.std.proofs.Common.{ℕ, zero, suc, ◌≤◌, ◌<◌, Bool, true, false, List, [], ◌∷◌, ◌≡◌, refl, ap, ⊎_elim, T, eqb, eqb→eq, leb, leb→le, take, replicate, arith, le-leb}
 use Rattle.strtab.specs.Utf8.{Range, range, tail, Start, starts, nowhere, followers, sequence_len, size_of}

@@ -1,9 +1,8 @@
 -- A name read in one pass: the zero byte is looked for and UTF-8 judged at the same time, since no character but the
 -- zero byte itself has a zero byte in it.
 -- Assumes nothing.
-use Rattle.std.proofs.Common.{ℕ, suc, ◌+◌, ◌-◌, ◌≤◌, ◌<◌, Bool, true, false, not, List, [], ◌∷◌, ◌≡◌, refl, ap, sym, ◌∙◌, T, eqb, length, get_or, take, drop, drop_of_length-le, drop-cons, drop-drop, arith, eq-eqb, eqb-true, Option, Some, None}
+use Rattle.std.proofs.Common.{ℕ, suc, ◌+◌, ◌-◌, ◌≤◌, ◌<◌, Bool, true, false, not, List, [], ◌∷◌, ◌≡◌, refl, ap, sym, ◌∙◌, T, eqb, length, get_or, take, drop, drop_of_length-le, drop-cons, drop-drop, arith, eq-eqb, eqb-true, Option, Some, None, if◌then◌else◌}
 use borrow.Author.Tests.{eqb-false}
-use Rattle.reads.specs.Pick.{pick}
 use Rattle.strtab.specs.Utf8.{Range, range, within, Start, starts, nowhere, characters, after}
 use Rattle.strtab.specs.Utf8.{begun, followers, octets, utf8}
 use Rattle.strtab.specs.Steps.{met, sized, char_len}
@@ -29,7 +28,7 @@ rows-high ([] ∷ rows) = rows-high rows
 rows-high ((r ∷ rs) ∷ rows) = both (high rs) (rows-high rows)
 
 one-high : (t : Bool) (rs : List Range) (st : Start) →
-    T (high rs) → T (start-high st) → T (start-high (pick t (starts rs) st))
+    T (high rs) → T (start-high st) → T (start-high (if t then starts rs else st))
 unfolding start-high
 one-high true rs st a b = a
 one-high false rs st a b = b
@@ -50,37 +49,37 @@ followers-high b = after-high b characters tt
 -- the name that bytes begin with, where ranges are still owed
 
 abbrev weighed : List Range → List ℕ → Option ℕ → Option ℕ
-weighed rs bs (Some n) = pick (octets rs (take n bs)) (Some n) None
+weighed rs bs (Some n) = if octets rs (take n bs) then Some n else None
 weighed rs bs None = None
 
 pub named : List Range → List ℕ → Option ℕ
 named rs bs = weighed rs bs (before_zero bs)
 
-longer-pick : (n : ℕ) (t : Bool) (l : Option ℕ) → longer n (pick t l None) ≡ pick t (longer n l) None
-longer-pick n true l = refl
-longer-pick n false l = refl
+longer-if : (n : ℕ) (t : Bool) (l : Option ℕ) → longer n (if t then l else None) ≡ (if t then longer n l else None)
+longer-if n true l = refl
+longer-if n false l = refl
 
 module _ (b : ℕ) (bs : List ℕ) (d : b ≡ 0 → ⊥) where
   one_more : (m : ℕ) → take (1 + m) (b ∷ bs) ≡ b ∷ take m bs
   one_more m = let e : 1 + m ≡ suc m = omega arith in ap (λ k. take k (b ∷ bs)) e
 
   owed-of : (t : Bool) (x : Bool) (m : ℕ) →
-      pick (pick t x false) (Some (1 + m)) None ≡ pick t (longer 1 (pick x (Some m) None)) None
+      (if if t then x else false then Some (1 + m) else None) ≡ (if t then longer 1 (if x then Some m else None) else None)
   owed-of true true m = refl
   owed-of true false m = refl
   owed-of false x m = refl
 
   owed-len : (r : Range) (rs : List Range) (l : Option ℕ) →
-      weighed (r ∷ rs) (b ∷ bs) (longer 1 l) ≡ pick (within r b) (longer 1 (weighed rs bs l)) None
+      weighed (r ∷ rs) (b ∷ bs) (longer 1 l) ≡ (if within r b then longer 1 (weighed rs bs l) else None)
   unfolding octets
   owed-len r rs (Some m) = rw (one_more m) (owed-of (within r b) (octets rs (take m bs)) m)
   owed-len r rs None = same (within r b)
     where
-      same : (t : Bool) → ◌≡◌ {A = Option ℕ} None (pick t None None)
+      same : (t : Bool) → ◌≡◌ {A = Option ℕ} None (if t then None else None)
       same true = refl
       same false = refl
 
-  owed : (r : Range) (rs : List Range) → named (r ∷ rs) (b ∷ bs) ≡ pick (within r b) (longer 1 (named rs bs)) None
+  owed : (r : Range) (rs : List Range) → named (r ∷ rs) (b ∷ bs) ≡ (if within r b then longer 1 (named rs bs) else None)
   unfolding named
   owed r rs = ap (weighed (r ∷ rs) (b ∷ bs)) (text-more b bs d) ∙ owed-len r rs (before_zero bs)
 
@@ -99,7 +98,7 @@ not-zero false h = refl
 
 -- what is owed is met, and the name goes on after it
 named-met : (rs : List Range) (bs : List ℕ) → T (high rs) →
-    named rs bs ≡ pick (met rs bs) (longer (length rs) (named [] (drop (length rs) bs))) None
+    named rs bs ≡ (if met rs bs then longer (length rs) (named [] (drop (length rs) bs)) else None)
 unfolding met high
 named-met [] bs h = longer-none (named [] bs)
 named-met (r ∷ rs) [] h = named-nil (r ∷ rs)
@@ -109,22 +108,22 @@ named-met (r ∷ rs) (b ∷ bs) h = go (named-met rs bs (both_right (not (within
     rest = named [] (drop (length rs) bs)
 
     step : (t m : Bool) (n : ℕ) (l : Option ℕ) →
-        pick t (longer 1 (pick m (longer n l) None)) None ≡ pick (pick t m false) (longer (suc n) l) None
+        (if t then longer 1 (if m then longer n l else None) else None) ≡ (if if t then m else false then longer (suc n) l else None)
     step true true n l = let e : 1 + n ≡ suc n = omega arith in longer-longer 1 n l ∙ ap (λ k. longer k l) e
     step true false n l = refl
     step false m n l = refl
 
-    go : named rs bs ≡ pick (met rs bs) (longer (length rs) rest) None → (t : Bool) → eqb b 0 ≡ t →
-        named (r ∷ rs) (b ∷ bs) ≡ pick (pick (within r b) (met rs bs) false) (longer (suc (length rs)) rest) None
+    go : named rs bs ≡ (if met rs bs then longer (length rs) rest else None) → (t : Bool) → eqb b 0 ≡ t →
+        named (r ∷ rs) (b ∷ bs) ≡ (if if within r b then met rs bs else false then longer (suc (length rs)) rest else None)
     go i true q =
         let e : b ≡ 0 = eqb-true b 0 q in
         let z : within r 0 ≡ false = not-zero (within r 0) (both_left (not (within r 0)) (high rs) h) in
         let w : within r b ≡ false = ap (within r) e ∙ z in
         owed-zero r rs b bs e
-        ∙ sym (ap (λ t. pick (pick t (met rs bs) false) (longer (suc (length rs)) rest) None) w)
+        ∙ sym (ap (λ t. if if t then met rs bs else false then longer (suc (length rs)) rest else None) w)
     go i false q =
         owed b bs (eqb-false b 0 q) r rs
-        ∙ ap (λ l. pick (within r b) (longer 1 l) None) i
+        ∙ ap (λ l. if within r b then longer 1 l else None) i
         ∙ step (within r b) (met rs bs) (length rs) rest
 
 -- ------------------------------------------------------------------------------------------------
@@ -136,8 +135,8 @@ onward nowhere bs l = None
 
 module _ (b : ℕ) (bs : List ℕ) (d : b ≡ 0 → ⊥) where
   onward-spans : (st : Start) (m : ℕ) →
-      pick (begun st (λ rs. octets rs (take m bs))) (Some (1 + m)) None ≡ onward st bs (Some m)
-  onward-spans (starts rs) m = sym (longer-pick 1 (octets rs (take m bs)) (Some m))
+      (if (begun st (λ rs. octets rs (take m bs))) then Some (1 + m) else None) ≡ onward st bs (Some m)
+  onward-spans (starts rs) m = sym (longer-if 1 (octets rs (take m bs)) (Some m))
   onward-spans nowhere m = refl
 
   onward-nothing : (st : Start) → None ≡ onward st bs None
@@ -161,12 +160,12 @@ name-byte b bs w =
 
 -- by the character's length
 module _ (bs : List ℕ) where
-  cut_off : (t : Bool) (k : ℕ) (l : Option ℕ) → pick t (suc k) 0 ≡ 0 → longer 1 (pick t (longer k l) None) ≡ None
+  cut_off : (t : Bool) (k : ℕ) (l : Option ℕ) → (if t then suc k else 0) ≡ 0 → longer 1 (if t then longer k l else None) ≡ None
   cut_off true k l e = absurd (omega arith)
   cut_off false k l e = refl
 
-  carry-on : (t : Bool) (k n : ℕ) → pick t (suc k) 0 ≡ n → (n ≡ 0 → ⊥) →
-      longer 1 (pick t (longer k (named [] (drop k bs))) None) ≡ longer n (named [] (drop (n - 1) bs))
+  carry-on : (t : Bool) (k n : ℕ) → (if t then suc k else 0) ≡ n → (n ≡ 0 → ⊥) →
+      longer 1 (if t then longer k (named [] (drop k bs)) else None) ≡ longer n (named [] (drop (n - 1) bs))
   carry-on true k n e z =
       let p : 1 + k ≡ n = omega arith in
       let q : k ≡ n - 1 = omega arith in

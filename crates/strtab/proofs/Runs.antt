@@ -1,7 +1,6 @@
 -- Runs of bytes in a range: each turn and way out of passing one, and what it passes of a string, a name and UTF-8.
 -- Assumes nothing.
-use Rattle.std.proofs.Common.{ℕ, suc, ◌+◌, ◌-◌, ◌≤◌, ◌<◌, Bool, true, false, List, [], ◌∷◌, ◌≡◌, refl, ap, sym, ◌∙◌, length, get_or, drop, length-drop, drop_of_length-le, drop-cons, drop-drop, get_or-drop, arith, Option, Some, None}
-use Rattle.reads.specs.Pick.{pick}
+use Rattle.std.proofs.Common.{ℕ, suc, ◌+◌, ◌-◌, ◌≤◌, ◌<◌, Bool, true, false, List, [], ◌∷◌, ◌≡◌, refl, ap, sym, ◌∙◌, length, get_or, drop, length-drop, drop_of_length-le, drop-cons, drop-drop, get_or-drop, arith, Option, Some, None, if◌then◌else◌}
 use Rattle.strtab.specs.Utf8.{Range, range, within, utf8}
 use Rattle.strtab.specs.Steps.{run_len}
 use Rattle.strtab.specs.Strings.{longer, before_zero, text_in}
@@ -48,8 +47,8 @@ run-last r [] h = absurd (omega arith)
 run-last r (b ∷ bs) h = go (run-last r bs) (within r b) refl h
   where
     go : (run_len r bs < length bs → within r (get_or bs (run_len r bs) 0) ≡ false) →
-        (t : Bool) → within r b ≡ t → pick t (suc (run_len r bs)) 0 < suc (length bs) →
-        within r (get_or (b ∷ bs) (pick t (suc (run_len r bs)) 0) 0) ≡ false
+        (t : Bool) → within r b ≡ t → (if t then suc (run_len r bs) else 0) < suc (length bs) →
+        within r (get_or (b ∷ bs) (if t then suc (run_len r bs) else 0) 0) ≡ false
     go i true q l = i (omega arith)
     go i false q l = q
 
@@ -71,7 +70,7 @@ module _ {A : Type 0} (r : Range) (read : List ℕ → A) where
   run-same h (b ∷ bs) = go (run-same h bs) (within r b) refl
     where
       go : read bs ≡ read (drop (run_len r bs) bs) → (t : Bool) → within r b ≡ t →
-          read (b ∷ bs) ≡ read (drop (pick t (suc (run_len r bs)) 0) (b ∷ bs))
+          read (b ∷ bs) ≡ read (drop (if t then suc (run_len r bs) else 0) (b ∷ bs))
       go i true q = h b bs q ∙ i
       go i false q = refl
 
@@ -84,7 +83,7 @@ module _ (r : Range) (read : List ℕ → Option ℕ)
   run-longer (b ∷ bs) = go (run-longer bs) (within r b) refl
     where
       go : read bs ≡ longer (run_len r bs) (read (drop (run_len r bs) bs)) → (t : Bool) → within r b ≡ t →
-          read (b ∷ bs) ≡ longer (pick t (suc (run_len r bs)) 0) (read (drop (pick t (suc (run_len r bs)) 0) (b ∷ bs)))
+          read (b ∷ bs) ≡ longer (if t then suc (run_len r bs) else 0) (read (drop (if t then suc (run_len r bs) else 0) (b ∷ bs)))
       go i true q =
           let e : 1 + run_len r bs ≡ suc (run_len r bs) = omega arith in
           h b bs q ∙ ap (longer 1) i ∙ longer-longer 1 (run_len r bs) (read (drop (run_len r bs) bs))

@@ -1,9 +1,8 @@
 -- Laws of the strings that read, for whoever calls: a string lies inside the file with a zero byte after it and none in
 -- it, a name is a string that is UTF-8, and the answer is that of the table's own bytes.
 -- Assumes nothing.
-use Rattle.std.proofs.Common.{ℕ, zero, suc, ◌+◌, ◌-◌, ◌≤◌, ◌<◌, Bool, true, false, List, [], ◌∷◌, ◌≡◌, refl, ap, sym, ◌∙◌, ⊎_elim, eqb, length, get_or, take, drop, length-drop, length-take-le, get_or-take, get_or-drop, ext_get_or, arith, lt-ltb, le-ltb, le-leb, eqb-true, Option, Some, None}
+use Rattle.std.proofs.Common.{ℕ, zero, suc, ◌+◌, ◌-◌, ◌≤◌, ◌<◌, Bool, true, false, List, [], ◌∷◌, ◌≡◌, refl, ap, sym, ◌∙◌, ⊎_elim, eqb, length, get_or, take, drop, length-drop, length-take-le, get_or-take, get_or-drop, ext_get_or, arith, lt-ltb, le-ltb, le-leb, eqb-true, Option, Some, None, if◌then◌else◌}
 use borrow.Author.Tests.{lt-leb, eqb-false}
-use Rattle.reads.specs.Pick.{pick}
 use Rattle.types.specs.declared.StrOffset.{StrOffset}
 use Rattle.types.specs.declared.Text.{Text}
 use Rattle.strtab.specs.Utf8.{utf8}
@@ -42,7 +41,7 @@ before-zero-is [] n e = let z : ◌≡◌ {A = ℕ} 0 1 = cc in never z
 before-zero-is (b ∷ bs) n e = go (before-zero-is bs) (eqb b 0) refl e
   where
     go : ((m : ℕ) → before_zero bs ≡ Some m → ZeroEnded bs m) →
-        (t : Bool) → eqb b 0 ≡ t → pick t (Some 0) (longer 1 (before_zero bs)) ≡ Some n → ZeroEnded (b ∷ bs) n
+        (t : Bool) → eqb b 0 ≡ t → (if t then Some 0 else longer 1 (before_zero bs)) ≡ Some n → ZeroEnded (b ∷ bs) n
     go h true q e =
         let p : 0 ≡ n = cc in
         rw (← p)
@@ -71,7 +70,7 @@ module _ (s : List ℕ) (at n : ℕ) where
   judged-is None e = let z : ◌≡◌ {A = ℕ} 0 1 = cc in never z
   judged-is (Some m) e = go (utf8 (take m (drop at s))) refl e
     where
-      go : (t : Bool) → utf8 (take m (drop at s)) ≡ t → pick t (Some m) None ≡ Some n →
+      go : (t : Bool) → utf8 (take m (drop at s)) ≡ t → (if t then Some m else None) ≡ Some n →
           (Some m ≡ Some n) × (utf8 (take n (drop at s)) ≡ true)
       go true q e = let k : n ≡ m = cc in (e, ap (λ j. utf8 (take j (drop at s))) k ∙ q)
       go false q e = let z : ◌≡◌ {A = ℕ} 0 1 = cc in never z

@@ -1,4 +1,4 @@
--- UTF-8 (RFC 3629), and the length of a sequence by its first byte (document 01). The grammar, in section 4 of the RFC:
+-- UTF-8 (RFC 3629), and the length of a sequence by its first byte (RULES). The grammar, in section 4 of the RFC:
 --   UTF8-octets = *( UTF8-char )
 --   UTF8-char   = UTF8-1 / UTF8-2 / UTF8-3 / UTF8-4
 --   UTF8-1      = %x00-7F
@@ -7,15 +7,14 @@
 --   UTF8-4      = %xF0 %x90-BF 2( UTF8-tail ) / %xF1-F3 3( UTF8-tail ) / %xF4 %x80-8F 2( UTF8-tail )
 --   UTF8-tail   = %x80-BF
 -- Assumes nothing.
-use Rattle.std.specs.Prelude.{ℕ, suc, Bool, true, false, List, [], ◌∷◌, leb, length}
-use Rattle.reads.specs.Pick.{pick}
+use Rattle.std.specs.Prelude.{ℕ, suc, Bool, true, false, List, [], ◌∷◌, leb, length, if◌then◌else◌}
 
 -- the bytes from low to high, both of them included
 pub data Range : Type 0 where
   range : ℕ → ℕ → Range
 
 abbrev pub within : Range → ℕ → Bool
-within (range low high) b = pick (leb low b) (leb b high) false
+within (range low high) b = if leb low b then leb b high else false
 
 abbrev pub tail : Range
 tail = range 0x80 0xbf
@@ -42,7 +41,7 @@ pub data Start : Type 0 where
 abbrev pub after : ℕ → List (List Range) → Start
 after b [] = nowhere
 after b ([] ∷ others) = after b others
-after b ((r ∷ rs) ∷ others) = pick (within r b) (starts rs) (after b others)
+after b ((r ∷ rs) ∷ others) = if within r b then starts rs else after b others
 
 unfoldable pub followers : ℕ → Start
 followers b = after b characters
@@ -56,7 +55,7 @@ unfoldable pub octets : List Range → List ℕ → Bool
 octets [] [] = true
 octets (r ∷ rs) [] = false
 octets [] (b ∷ bs) = begun (followers b) (λ rs. octets rs bs)
-octets (r ∷ rs) (b ∷ bs) = pick (within r b) (octets rs bs) false
+octets (r ∷ rs) (b ∷ bs) = if within r b then octets rs bs else false
 
 unfoldable pub utf8 : List ℕ → Bool
 utf8 bs = octets [] bs
@@ -64,10 +63,10 @@ utf8 bs = octets [] bs
 -- the length of a sequence by its first byte: 1 for 00 to 7f, 2 for c2 to df, 3 for e0 to ef, 4 for f0 to f4, else 0
 unfoldable pub sequence_len : ℕ → ℕ
 sequence_len b =
-    pick (within (range 0x00 0x7f) b) 1
-    (pick (within (range 0xc2 0xdf) b) 2
-    (pick (within (range 0xe0 0xef) b) 3
-    (pick (within (range 0xf0 0xf4) b) 4 0)))
+    if within (range 0x00 0x7f) b then 1
+    else if within (range 0xc2 0xdf) b then 2
+    else if within (range 0xe0 0xef) b then 3
+    else if within (range 0xf0 0xf4) b then 4 else 0
 
 -- how many bytes a character has that starts so, 0 where none does
 abbrev pub size_of : Start → ℕ

@@ -2,7 +2,7 @@
 ghost use Rattle.std.specs.Prelude.{◌≡◌};
 ghost use Rattle.strtab.specs.Utf8.{sequence_len};
 
-// 1 for 00 to 7f, 2 for c2 to df, 3 for e0 to ef, 4 for f0 to f4, else 0 (document 01; Rust's library has the same).
+// 1 for 00 to 7f, 2 for c2 to df, 3 for e0 to ef, 4 for f0 to f4, else 0 (RULES; Rust's library has the same).
 // The first and the last entry of each run are marked.
 const LENGTHS: [u8; 256] = [
     1, // 00

@@ -23,7 +23,7 @@ pub struct StrTable {
 }
 
 // The directory or file string at an offset of the string table. None where the table is no part of the file, the
-// offset is not inside it, or no zero byte follows inside it (document 01, "Finding the entry"). It need not be UTF-8.
+// offset is not inside it, or no zero byte follows inside it (RULES, "Strings"). It need not be UTF-8.
 pub fn text_at(file: &[u8], table: StrTable, offset: StrOffset) -> Option<Text>
     ensures { result ≡ text_at file.now table offset }
 {

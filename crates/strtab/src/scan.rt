@@ -1,7 +1,6 @@
 // Runs of bytes that need no judging, passed four at a time, or sixteen in names.
-ghost use Rattle.std.specs.Prelude.{◌≡◌, ◌+◌, ◌≤◌, length, drop};
+ghost use Rattle.std.specs.Prelude.{◌≡◌, ◌+◌, ◌≤◌, length, drop, if◌then◌else◌};
 ghost use Rattle.strtab.specs.Utf8.{range, within};
-ghost use Rattle.reads.specs.Pick.{pick};
 ghost use Rattle.strtab.specs.Steps.{run_len, count_in};
 
 // The first place from `at` on whose byte is not one from 1 to 7f, or the end. Its callers start inside the slice.
@@ -49,7 +48,7 @@ fn four_in(s: &[u8], at: usize) -> u8
 
 // 1 for a byte from 1 to 7f, else 0.
 fn one_in(b: u8) -> u8
-    ensures { (result ≡ pick (within (range 1 0x7f) b) 1 0) × (result ≤ 1) }
+    ensures { (result ≡ (if within (range 1 0x7f) b then 1 else 0)) × (result ≤ 1) }
 {
     is_between(1, 0x7f, b) as u8
 }

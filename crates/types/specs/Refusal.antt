@@ -1,4 +1,4 @@
--- What a refusal is: its number, and zero in every other field (document 01, "Refusal numbers").
+-- What a refusal is: its number, and zero in every other field (RULES, "Refusal numbers").
 -- Assumes nothing.
 use Rattle.std.specs.Prelude.{ℕ, false}
 use Rattle.types.specs.declared.Text.{Text}

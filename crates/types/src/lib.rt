@@ -67,7 +67,7 @@ pub struct Frame {
     pub line: LineNumber,
 }
 
-// The refusal numbers of document 01, in its order; 0 is no refusal.
+// The refusal numbers of RULES, in its order; 0 is no refusal.
 pub const FOUND: u8 = 0;
 
 pub const UNKNOWN_ADDRESS: u8 = 1;

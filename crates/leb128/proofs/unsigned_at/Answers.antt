@@ -62,9 +62,9 @@ returns-then-tenth-le1 c = (plain-last _ _ _ _ _ c.loop-i.invariant (omega arith
 pub returns : goal.returns
 returns c =
     let heavy : 2 ^ 63 ≤ c.loop-i.unit =
-        elim c.loop-i-test.branch [
-          then-loop-i-test+else-unit-lt-TENTH w ↦ omega arith
-        | else-loop-i-test w ↦ absurd (omega arith)
-        ]
+    elim c.loop-i-test.branch [
+      | then-loop-i-test+else-unit-lt-TENTH w ↦ omega arith
+      | else-loop-i-test w ↦ absurd (omega arith)
+    ]
     in
     plain-above _ _ _ _ _ c.loop-i.invariant (omega arith) heavy (omega arith)

@@ -1,4 +1,4 @@
--- `parser::opening::parse_header` meets its contract: magic and version, once they read, and the length pick the case.
+-- `parser::opening::parse_header` meets its contract: magic and version, once they read, and the length cond the case.
 -- Assumes nothing.
 use Rattle.std.proofs.Common.{◌≡◌, Some, None, sym, ap, ◌∙◌, arith}
 use Rattle.std.proofs.lemmas.Result.{err_from_is_err_and}

@@ -1,4 +1,4 @@
--- `parser::search::table_len` meets its contract: the offset size and the room pick the case.
+-- `parser::search::table_len` meets its contract: the offset size and the room cond the case.
 -- Assumes nothing.
 use Rattle.std.proofs.Common.{sym, ◌∙◌}
 use Rattle.parser.proofs.Table.{len-fits, len-full, len-other}

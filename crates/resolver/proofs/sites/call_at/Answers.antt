@@ -1,4 +1,4 @@
--- `resolver::sites::call_at` meets its contract: the name, then the position of the call, pick the case of `call_at`.
+-- `resolver::sites::call_at` meets its contract: the name, then the position of the call, cond the case of `call_at`.
 -- Assumes nothing.
 use Rattle.std.proofs.Common.{sym, ◌∙◌}
 use Rattle.std.proofs.lemmas.Result.{err_from_is_err_and}
