@@ -1,10 +1,6 @@
 -- From the root, read as a judged node, to a block's answer.
 -- Assumes nothing.
-use Prim.Native.Nat.{ℕ, ◌≤◌}
-use mathlib.Core.List.{List}
-use mathlib.Core.Path.{◌≡◌, sym, ap, subst, ◌∙◌}
-use lib.ListN.{length}
-use native.Mathlib.Omega.{arith}
+use Rattle.std.proofs.Common.{ℕ, ◌≤◌, List, ◌≡◌, sym, ap, subst, ◌∙◌, length, arith}
 use Rattle.inline.specs.Store.{flat, frames_in}
 use Rattle.inline.specs.Walk.{view, WalkGoes, Walked}
 use Rattle.inline.specs.Block.{

@@ -1,15 +1,12 @@
--- Demand 3 of `frames`, in its own words: "the call that reads one block lists exactly the nodes with a name other
--- than 0 that contain the address and whose ancestors all contain it, each once, parents before children, siblings in
--- file order, all below one sibling before the next." The frames are so listed, and no other list of frames is.
+-- What `frames` lists, told by paths (RULES, "Inline tree"): exactly the open nodes whose name is not 0, each once,
+-- parents before children, siblings in file order, all below one sibling before the next. The frames are so listed, and
+-- no other list of frames is.
 -- Assumes nothing.
-use Prim.Native.Nat.{ℕ, zero, suc, ◌<◌}
+use Rattle.std.proofs.Common.{ℕ, zero, suc, ◌<◌, List, [], ◌∷◌, map, ◌↔◌, ◌≡◌, refl, ap, ap₂, sym, subst, ◌∙◌, length, get_or, arith}
 use mathlib.Core.List.Memᴰ
-use mathlib.Core.List.{List, [], ◌∷◌, map, Memᴰ}
-use mathlib.Core.Logic.{◌↔◌}
+use mathlib.Core.List.{Memᴰ}
 use mathlib.Core.Option.{some}
-use mathlib.Core.Path.{◌≡◌, refl, ap, ap₂, sym, subst, ◌∙◌}
-use lib.ListN.{length, get_or, length-map}
-use native.Mathlib.Omega.{arith}
+use lib.ListN.{length-map}
 use Rattle.types.specs.declared.InlineFrame.{InlineFrame}
 use Rattle.inline.specs.Tree.{Forest, none, tree}
 use Rattle.inline.specs.Frames.{child_base, frames}
@@ -82,7 +79,7 @@ some-injective (f ∷ fs) (g ∷ gs) e =
     let b : map some fs ≡ map some gs = cc in
     ap₂ ◌∷◌ a (some-injective fs gs b)
 
--- ---- the demand
+-- ---- which nodes are listed, and in which order
 
 module _ (addr base : ℕ) (forest : Forest) where
   -- "exactly the nodes with a name other than 0 that contain the address and whose ancestors all contain it"
@@ -110,7 +107,7 @@ module _ (addr base : ℕ) (forest : Forest) where
       ∙ ap length (sym (frames-by-paths addr base forest))
       ∙ length-map (frame_paths addr base forest) (frame_at base forest)
 
-  -- the frames are listed as the demand says
+  -- the frames are listed as `ListsByPaths` says
   pub frames-listed : ListsByPaths addr base forest (frame_paths addr base forest) (frames addr base forest)
   frames-listed = record { each = frames-by-paths addr base forest; exactly = listed; order = rises addr base forest }
 
@@ -125,7 +122,7 @@ module _ (addr base : ℕ) (forest : Forest) where
             (sym l.each ∙ ap (map (frame_at base forest)) e ∙ frames-by-paths addr base forest),
       )
 
-  -- the demand in one line
+  -- both in one line
   pub demand-3 :
       (fs : List InlineFrame) →
       ((ps : List NodePath) × ListsByPaths addr base forest ps fs) ↔ (fs ≡ frames addr base forest)

@@ -1,10 +1,7 @@
--- The conditions of document 01 on judged nodes and on levels, stated by paths, are those by recursion on the tree.
+-- The conditions of RULES on judged nodes and on levels, stated by paths, are those by recursion on the tree.
 -- Assumes nothing.
-use Prim.Native.Nat.{ℕ, zero, suc, ◌≤◌}
-use mathlib.Core.Logic.{◌↔◌, ◌⊎◌, inl, inr, ⊎_elim}
+use Rattle.std.proofs.Common.{ℕ, zero, suc, ◌≤◌, ◌↔◌, ◌⊎◌, inl, inr, ⊎_elim, ◌≡◌, refl, ap, sym, subst, ◌∙◌, arith}
 use mathlib.Core.Option.{some}
-use mathlib.Core.Path.{◌≡◌, refl, ap, sym, subst, ◌∙◌}
-use native.Mathlib.Omega.{arith}
 use Rattle.inline.specs.Tree.{Node, Forest, none, tree}
 use Rattle.inline.specs.Frames.{child_base}
 use Rattle.inline.specs.Fits.{Fits, depth}

@@ -1,20 +1,9 @@
--- The order of paths: it is strict and total and is that of the demand's words, and a list that rises in it is settled
+-- The order of paths: it is strict and total and is that of `Before`, and a list that rises in it is settled
 -- by its members.
 -- Assumes nothing.
-use Prim.Native.Nat.{ℕ, zero, suc, ◌≤◌, ◌<◌}
+use Rattle.std.proofs.Common.{ℕ, zero, suc, ◌≤◌, ◌<◌, List, [], ◌∷◌, ◌++◌, map, ◌↔◌, ◌⊎◌, inl, inr, ⊎_elim, ◌≡◌, refl, ap, ap₂, sym, subst, ◌∙◌, length, get_or, arith}
 use mathlib.Core.List.Memᴰ
-use mathlib.Core.List.{
-  List,
-  [],
-  ◌∷◌,
-  ◌++◌,
-  map,
-  Memᴰ,
-}
-use mathlib.Core.Logic.{◌↔◌, ◌⊎◌, inl, inr, ⊎_elim}
-use mathlib.Core.Path.{◌≡◌, refl, ap, ap₂, sym, subst, ◌∙◌}
-use lib.ListN.{length, get_or}
-use native.Mathlib.Omega.{arith}
+use mathlib.Core.List.{Memᴰ}
 use Rattle.std.proofs.lemmas.Bool.{cases_lt}
 use Rattle.inline.specs.Paths.{
   NodePath,
@@ -82,7 +71,7 @@ before-total (under i p) (under j q) = by_first (under i p) (under j q) (λ e. g
     go e (inr (inl s)) = inr (inl (ap₂ under e s))
     go e (inr (inr b)) = inr (inr (inside (sym e) b))
 
--- ---- the order in the demand's words
+-- ---- the order in words
 
 -- "parents before children": a node before all below it
 pub parents-first : (p q : NodePath) → UpTo p q → (p ≡ q) ⊎ Before p q

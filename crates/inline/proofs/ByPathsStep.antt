@@ -1,6 +1,7 @@
 -- What a first node adds to the list of paths, with all below it and with the nodes after it: which members, in which
 -- order, and which frames.
 -- Assumes nothing.
+use Rattle.std.proofs.Common.{if◌then◌else◌}
 use Prim.Native.Nat.{ℕ}
 use mathlib.Core.Bool.{Bool, true, false}
 use mathlib.Core.List.Memᴰ
@@ -22,7 +23,6 @@ use lib.Dec.{eqb}
 use native.Mathlib.Omega.{arith}
 use borrow.Author.Tests.{eqb-false, ne_eqb}
 use Rattle.types.specs.declared.InlineFrame.{InlineFrame}
-use Rattle.reads.specs.Pick.{pick}
 use Rattle.inline.specs.Tree.{Node, Forest, tree}
 use Rattle.inline.specs.Frames.{any_in, child_base, frame_of, named}
 use Rattle.inline.specs.Paths.{
@@ -64,22 +64,22 @@ module _ (p : NodePath) where
   own-inv : (n : Node) → Memᴰ p (own_path n) → (p ≡ top 0) × (n.name ≡ 0 → ⊥)
   own-inv n = go (eqb n.name 0) refl
     where
-      go : (z : Bool) → eqb n.name 0 ≡ z → Memᴰ p (pick z [] (top 0 ∷ [])) → (p ≡ top 0) × (n.name ≡ 0 → ⊥)
+      go : (z : Bool) → eqb n.name 0 ≡ z → Memᴰ p (if z then [] else top 0 ∷ []) → (p ≡ top 0) × (n.name ≡ 0 → ⊥)
       go true e m = absurd (Memᴰ.not-nil m)
       go false e m = (Memᴰ.eq_of_singleton m, eqb-false _ _ e)
 
-  pick_inv : (t : Bool) (ps : List NodePath) → Memᴰ p (pick t ps []) → (t ≡ true) × Memᴰ p ps
+  pick_inv : (t : Bool) (ps : List NodePath) → Memᴰ p (if t then ps else []) → (t ≡ true) × Memᴰ p ps
   pick_inv true ps m = (refl, m)
   pick_inv false ps m = absurd (Memᴰ.not-nil m)
 
 rises-own : (n : Node) → Rises (own_path n)
 rises-own n = go (eqb n.name 0)
   where
-    go : (z : Bool) → Rises (pick z [] (top 0 ∷ []))
+    go : (z : Bool) → Rises (if z then [] else top 0 ∷ [])
     go true = rises-nil
     go false = rises-one (top 0)
 
-rises-pick : (t : Bool) (ps : List NodePath) → Rises ps → Rises (pick t ps [])
+rises-pick : (t : Bool) (ps : List NodePath) → Rises ps → Rises (if t then ps else [])
 rises-pick true ps r = r
 rises-pick false ps r = rises-nil
 
@@ -93,7 +93,7 @@ module _ (addr base : ℕ) (n : Node) (kids rest : Forest) where
   below = frame_paths addr (child_base base n) kids
 
   abbrev front : List NodePath
-  front = pick (any_in addr base n.ranges) (own_path n ++ map (under 0) below) []
+  front = if any_in addr base n.ranges then own_path n ++ map (under 0) below else []
 
   abbrev after : List NodePath
   after = frame_paths addr base rest
@@ -201,7 +201,7 @@ module _ (addr base : ℕ) (n : Node) (kids rest : Forest) where
   frames-own : map here (own_path n) ≡ map some (named n)
   frames-own = go (eqb n.name 0)
     where
-      go : (z : Bool) → map here (pick z [] (top 0 ∷ [])) ≡ map some (pick z [] (frame_of n ∷ []))
+      go : (z : Bool) → map here (if z then [] else top 0 ∷ []) ≡ map some (if z then [] else frame_of n ∷ [])
       go true = refl
       go false = ap (λ x. shown x ∷ []) (node-first base n kids rest)
 
@@ -216,10 +216,10 @@ module _ (addr base : ℕ) (n : Node) (kids rest : Forest) where
 
   frames-front :
       (fs : List InlineFrame) → map (frame_at (child_base base n) kids) below ≡ map some fs →
-      map here front ≡ map some (pick (any_in addr base n.ranges) (named n ++ fs) [])
+      map here front ≡ map some (if any_in addr base n.ranges then named n ++ fs else [])
   frames-front fs ih = go (any_in addr base n.ranges)
     where
-      go : (t : Bool) → map here (pick t (own_path n ++ map (under 0) below) []) ≡ map some (pick t (named n ++ fs) [])
+      go : (t : Bool) → map here (if t then own_path n ++ map (under 0) below else []) ≡ map some (if t then named n ++ fs else [])
       go true =
           map-append here (own_path n) (map (under 0) below)
           ∙ ap₂ ◌++◌ frames-own (frames-under below ∙ ih)
@@ -230,8 +230,8 @@ module _ (addr base : ℕ) (n : Node) (kids rest : Forest) where
       (fs gs : List InlineFrame) → map (frame_at (child_base base n) kids) below ≡ map some fs →
       map (frame_at base rest) after ≡ map some gs →
       map here (front ++ map later after)
-      ≡ map some (pick (any_in addr base n.ranges) (named n ++ fs) [] ++ gs)
+      ≡ map some ((if any_in addr base n.ranges then named n ++ fs else []) ++ gs)
   frames-step fs gs ik ir =
       map-append here front (map later after)
       ∙ ap₂ ◌++◌ (frames-front fs ik) (frames-later after ∙ ir)
-      ∙ sym (map-append some (pick (any_in addr base n.ranges) (named n ++ fs) []) gs)
+      ∙ sym (map-append some (if any_in addr base n.ranges then named n ++ fs else []) gs)

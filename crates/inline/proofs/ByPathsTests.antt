@@ -1,13 +1,8 @@
 -- The tests on a node's ranges say what the statements over its ranges say.
 -- Assumes nothing.
-use Prim.Native.Nat.{ℕ, ◌+◌, ◌≤◌, ◌<◌}
-use mathlib.Core.Bool.{Bool, true, false, true≢false, false≢true}
-use mathlib.Core.List.{List, [], ◌∷◌, Memᴰ}
-use mathlib.Core.Logic.{◌↔◌}
-use mathlib.Core.Path.{◌≡◌, refl, ap, sym, ◌∙◌}
-use lib.Dec.{ltb, leb}
-use borrow.Author.Tests.{ltb-true, ltb-false, leb-true, lt-ltb, le-ltb, le-leb}
-use Rattle.reads.specs.Pick.{pick}
+use Rattle.std.proofs.Common.{ℕ, ◌+◌, ◌≤◌, ◌<◌, Bool, true, false, true≢false, List, [], ◌∷◌, ◌↔◌, ◌≡◌, refl, ap, sym, ◌∙◌, ltb, leb, ltb-true, ltb-false, leb-true, lt-ltb, le-ltb, le-leb, if◌then◌else◌, cond}
+use mathlib.Core.Bool.{false≢true}
+use mathlib.Core.List.{Memᴰ}
 use Rattle.inline.specs.Tree.{Range, Node}
 use Rattle.inline.specs.Frames.{in_range, any_in}
 use Rattle.inline.specs.Fits.{most_address, most_file, too_large, any_large}
@@ -19,7 +14,7 @@ module _
     (test : Range → Bool)
     (any : List Range → Bool)
     (any-nil : any [] ≡ false)
-    (any-cons : (r : Range) (rs : List Range) → any (r ∷ rs) ≡ pick (test r) true (any rs))
+    (any-cons : (r : Range) (rs : List Range) → any (r ∷ rs) ≡ (if test r then true else any rs))
   where
     any-inv : (rs : List Range) → any rs ≡ true → (r : Range) × Memᴰ r rs × (test r ≡ true)
     any-inv [] e = absurd (false≢true (sym any-nil ∙ e))
@@ -27,17 +22,17 @@ module _
       where
         go :
             (t : Bool) → test r ≡ t → (any rs ≡ true → (x : Range) × Memᴰ x rs × (test x ≡ true)) →
-            pick t true (any rs) ≡ true → (x : Range) × Memᴰ x (r ∷ rs) × (test x ≡ true)
+            (if t then true else any rs) ≡ true → (x : Range) × Memᴰ x (r ∷ rs) × (test x ≡ true)
         go true p below q = (r, Memᴰ.head refl, p)
         go false p below q = let i = below q in (i.0, Memᴰ.tail i.1, i.2)
 
     any_of : (r : Range) (rs : List Range) → Memᴰ r rs → test r ≡ true → any rs ≡ true
     any_of r [] m h = elim m [ ]
-    any_of r (x ∷ xs) (Memᴰ.head e) h = any-cons x xs ∙ ap (λ t. pick t true (any xs)) (sym (ap test e) ∙ h)
+    any_of r (x ∷ xs) (Memᴰ.head e) h = any-cons x xs ∙ ap (λ t. if t then true else any xs) (sym (ap test e) ∙ h)
     any_of r (x ∷ xs) (Memᴰ.tail m) h =
-        any-cons x xs ∙ ap (pick (test x) true) (any_of r xs m h) ∙ go (test x)
+        any-cons x xs ∙ ap (cond (test x) true) (any_of r xs m h) ∙ go (test x)
       where
-        go : (t : Bool) → pick t true true ≡ true
+        go : (t : Bool) → (if t then true else true) ≡ true
         go true = refl
         go false = refl
 
@@ -63,7 +58,7 @@ module _ (addr base : ℕ) where
   in-nil = refl
 
   in-cons :
-      (r : Range) (rs : List Range) → any_in addr base (r ∷ rs) ≡ pick (in_range addr base r) true (any_in addr base rs)
+      (r : Range) (rs : List Range) → any_in addr base (r ∷ rs) ≡ (if in_range addr base r then true else any_in addr base rs)
   unfolding any_in
   in-cons r rs = refl
 
@@ -72,7 +67,7 @@ module _ (addr base : ℕ) where
   in-range-inv r = go (leb (base + r.off) addr) refl
     where
       go :
-          (t : Bool) → leb (base + r.off) addr ≡ t → pick t (ltb addr (base + r.off + r.size)) false ≡ true →
+          (t : Bool) → leb (base + r.off) addr ≡ t → (if t then ltb addr (base + r.off + r.size) else false) ≡ true →
           (base + r.off ≤ addr) × (addr < base + r.off + r.size)
       go true p q = (leb-true _ _ p, ltb-true _ _ q)
       go false p q = absurd (false≢true q)
@@ -103,7 +98,7 @@ module _ (base : ℕ) where
   unfolding any_large
   large-nil = refl
 
-  large-cons : (r : Range) (rs : List Range) → any_large base (r ∷ rs) ≡ pick (too_large base r) true (any_large base rs)
+  large-cons : (r : Range) (rs : List Range) → any_large base (r ∷ rs) ≡ (if too_large base r then true else any_large base rs)
   unfolding any_large
   large-cons r rs = refl
 
@@ -114,7 +109,7 @@ module _ (base : ℕ) where
     where
       go :
           (t : Bool) → ltb most_address (base + r.off) ≡ t →
-          pick t true (ltb most_address (base + r.off + r.size)) ≡ false →
+          (if t then true else ltb most_address (base + r.off + r.size)) ≡ false →
           (base + r.off ≤ most_address) × (base + r.off + r.size ≤ most_address)
       go true p q = absurd (true≢false q)
       go false p q = (ltb-false _ _ p, ltb-false _ _ q)

@@ -1,10 +1,7 @@
 -- What holds of a path in a forest, by where the path goes: to the first node, to a node below it, or past it.
 -- Assumes nothing.
-use Prim.Native.Nat.{ℕ, suc}
-use mathlib.Core.Logic.{◌↔◌}
+use Rattle.std.proofs.Common.{ℕ, suc, ◌↔◌, ◌≡◌, refl, ap, sym, subst, ◌∙◌, arith}
 use mathlib.Core.Option.{none as nowhere, some}
-use mathlib.Core.Path.{◌≡◌, refl, ap, sym, subst, ◌∙◌}
-use native.Mathlib.Omega.{arith}
 use Rattle.inline.specs.Tree.{Node, Forest, none, tree}
 use Rattle.inline.specs.Frames.{child_base}
 use Rattle.inline.specs.Paths.{

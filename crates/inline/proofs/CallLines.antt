@@ -1,16 +1,9 @@
 -- The call line of a block's frame is below 2^32: a number above becomes 2^32 - 1.
 -- Assumes nothing.
+use Rattle.std.proofs.Common.{Ok, Err, Some, None, Option, Result, ℕ, zero, suc, ◌+◌, ◌<◌, ◌^◌, Bool, true, false, List, [], ◌∷◌, ◌++◌, ltb, eqb, length, arith, if◌then◌else◌}
 use Rattle.inline.specs.declared.head.Fault.{Fault}
-use Rattle.std.proofs.Common.{Ok, Err, Some, None, Option, Result}
 use Rattle.leb128.specs.Answers.{unsigned_at}
 use Rattle.leb128.specs.declared.Cause.{Cause}
-use Prim.Native.Nat.{ℕ, zero, suc, ◌+◌, ◌<◌, ◌^◌}
-use mathlib.Core.Bool.{Bool, true, false}
-use mathlib.Core.List.{List, [], ◌∷◌, ◌++◌}
-use lib.Dec.{ltb, eqb}
-use lib.ListN.{length}
-use native.Mathlib.Omega.{arith}
-use Rattle.reads.specs.Pick.{pick}
 use Rattle.reads.specs.Answers.{u8_at, u32_at}
 use Rattle.types.specs.declared.InlineFrame.{InlineFrame}
 use Rattle.inline.specs.Tree.{Range}
@@ -73,7 +66,7 @@ BlockCapped (listed fs) = Capped fs
 BlockCapped (refused n) = Unit {0}
 
 -- what holds of both ways holds of a choice
-picked : {A : Type 0} (P : A → Type 0) (t : Bool) (x y : A) → P x → P y → P (pick t x y)
+picked : {A : Type 0} (P : A → Type 0) (t : Bool) (x y : A) → P x → P y → P (if t then x else y)
 picked P true x y p q = p
 picked P false x y p q = q
 
@@ -124,7 +117,7 @@ raw-capped s at = by_count (unsigned_at s at)
 -- a fault of ranges or of the call file has no line
 fits : (c : Ctx) (rs : List Range) (x : Seen) → SeenCapped x → SeenCapped (ranges_fit seen.Bad c rs x)
 fits c rs x l =
-    picked SeenCapped (ltb 64 c.level) (seen.Bad fault.Level) (pick (any_large c.base rs) (seen.Bad fault.Sum) x)
+    picked SeenCapped (ltb 64 c.level) (seen.Bad fault.Level) (if any_large c.base rs then seen.Bad fault.Sum else x)
     tt
     (picked SeenCapped (any_large c.base rs) (seen.Bad fault.Sum) x tt l)
 

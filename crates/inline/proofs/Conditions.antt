@@ -1,12 +1,6 @@
--- Document 01's conditions on a tree: what the reading tests of levels, and the conditions on judged nodes as one.
+-- The conditions of RULES on a tree: what the reading tests of levels, and the conditions on judged nodes as one.
 -- Assumes nothing.
-use Prim.Native.Nat.{ℕ, ◌+◌, ◌≤◌}
-use mathlib.Core.Bool.{Bool, true, false}
-use mathlib.Core.Path.{◌≡◌, refl}
-use lib.Dec.{ltb}
-use native.Mathlib.Omega.{arith}
-use borrow.Author.Tests.{le-ltb, ltb-false}
-use Rattle.reads.specs.Pick.{pick}
+use Rattle.std.proofs.Common.{ℕ, ◌+◌, ◌≤◌, Bool, true, false, ◌≡◌, refl, ltb, arith, le-ltb, ltb-false, if◌then◌else◌}
 use Rattle.inline.specs.Tree.{Forest, none, tree}
 use Rattle.inline.specs.Frames.{child_base}
 use Rattle.inline.specs.Fits.{most_file, any_large, Fits, depth}
@@ -22,7 +16,7 @@ Levels level none = Unit {0}
 Levels level (tree self kids rest) = (level ≤ 64) × Levels (level + 1) kids × Levels level rest
 
 -- that is what the reading tests
-not_first : (t x : Bool) → pick t true x ≡ false → (t ≡ false) × (x ≡ false)
+not_first : (t x : Bool) → (if t then true else x) ≡ false → (t ≡ false) × (x ≡ false)
 not_first true x e = never (let z : ◌≡◌ {A = ℕ} 0 1 = cc in z)
 not_first false x e = (refl, e)
 

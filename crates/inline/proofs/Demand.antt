@@ -1,10 +1,6 @@
--- Demand 3 of the product: what the call that reads one block lists.
+-- What the call that reads one block lists (RULES, "Inline tree").
 -- Assumes nothing.
-use Prim.Native.Nat.{ℕ, ◌*◌, ◌≤◌}
-use mathlib.Core.List.{List, []}
-use mathlib.Core.Path.{◌≡◌, refl, sym, ap, subst, ◌∙◌}
-use lib.ListN.{length, take}
-use native.Mathlib.Omega.{arith}
+use Rattle.std.proofs.Common.{ℕ, ◌*◌, ◌≤◌, List, [], ◌≡◌, refl, sym, ap, subst, ◌∙◌, length, take, arith}
 use Rattle.types.specs.declared.InlineFrame.{InlineFrame}
 use Rattle.inline.specs.Frames.{frames}
 use Rattle.inline.specs.Store.{flat}
@@ -130,8 +126,8 @@ module _ (symbol addr room : ℕ) (bytes : List ℕ) where
   unfolding block_of
   refused-no e p = out-no (walk_node (length bytes) bytes (root_ctx symbol addr room) 0 []) e p
 
-  -- "A block that doesn't so read is refused with the first fault in reading order": `block_of` is that reading in one
-  -- pass, with its faults in the order of document 01.
+  -- A block that doesn't read so is refused with the first fault in reading order: `block_of` is that reading in one
+  -- pass, with its faults in the order of RULES.
   pub refuses :
       (Reads symbol addr room bytes → ⊥) →
       (e : ℕ) × (block_of symbol addr room bytes ≡ refused e) × (10 ≤ e) × (e ≤ 14)

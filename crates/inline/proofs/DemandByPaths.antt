@@ -1,11 +1,7 @@
--- Demand 3 of the product, from the bytes to the paths: where a block reads, what `block_of` lists is exactly the demand's
--- sentence over the paths of its tree, and document 01's conditions are those on its judged nodes and its levels.
+-- From the bytes to the paths: where a block reads, what `block_of` lists is exactly what `ListsByPaths` says of the
+-- paths of its tree, and the conditions of RULES are those on its judged nodes and its levels.
 -- Assumes nothing.
-use Prim.Native.Nat.{ℕ, ◌≤◌}
-use mathlib.Core.List.{List}
-use mathlib.Core.Logic.{◌↔◌}
-use mathlib.Core.Path.{◌≡◌, ap, sym, ◌∙◌}
-use lib.ListN.{length}
+use Rattle.std.proofs.Common.{ℕ, ◌≤◌, List, ◌↔◌, ◌≡◌, ap, sym, ◌∙◌, length}
 use Rattle.types.specs.declared.InlineFrame.{InlineFrame}
 use Rattle.inline.specs.Tree.{Forest}
 use Rattle.inline.specs.Frames.{frames}

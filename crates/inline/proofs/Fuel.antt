@@ -1,12 +1,6 @@
 -- Fuel for the bytes left is enough: more of it changes nothing.
 -- Assumes nothing.
-use Prim.Native.Nat.{ℕ, zero, suc, ◌-◌, ◌<◌, ◌≤◌}
-use mathlib.Core.List.{List, []}
-use mathlib.Core.Path.{◌≡◌, refl, sym, ap, ◌∙◌}
-use lib.Dec.{eqb}
-use lib.ListN.{length}
-use native.Mathlib.Omega.{arith}
-use Rattle.reads.specs.Pick.{pick}
+use Rattle.std.proofs.Common.{ℕ, zero, suc, ◌-◌, ◌<◌, ◌≤◌, List, [], ◌≡◌, refl, sym, ap, ◌∙◌, eqb, length, arith, if◌then◌else◌}
 use Rattle.inline.specs.Tree.{Node, Forest, none}
 use Rattle.inline.specs.Head.{Whole, Raw, end, cut, part, late, node, raw_at}
 use Rattle.inline.specs.Walk.{walk_node}
@@ -46,7 +40,7 @@ read-from at m len (torn t) le g = tt
 kids-goes :
     (at len : ℕ) (kids : ℕ → Read) → ((n : ℕ) → ReadGoes n len (kids n)) → (w : Whole) →
     (at < w.next) × (w.next ≤ len) →
-    ReadGoes at len (pick (eqb w.kids 0) (got w.next none) (kids w.next))
+    ReadGoes at len (if eqb w.kids 0 then got w.next none else kids w.next)
 kids-goes at len kids ih w g =
     pick-has (ReadGoes at len) (eqb w.kids 0) (got w.next none) (kids w.next) (λ _. g)
     (λ _. read-from at w.next len (kids w.next) (omega (arith, g.0)) (ih w.next))
@@ -90,7 +84,7 @@ same-raw at len kids kids' go go' ik sk sg (part k rs) g = refl
 same-raw at len kids kids' go go' ik sk sg (late k rs file) g = refl
 same-raw at len kids kids' go go' ik sk sg (node w) g =
     same_rest at len go go' sg w.self _ (kids-goes at len kids ik w g)
-    ∙ ap (λ (K : Read). with_list go' w.self (pick (eqb w.kids 0) (got w.next none) K))
+    ∙ ap (λ (K : Read). with_list go' w.self (if eqb w.kids 0 then got w.next none else K))
     (sk w.next g.0 g.1)
 
 -- ---- any two amounts above the bytes left read the same

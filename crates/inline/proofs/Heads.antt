@@ -1,16 +1,8 @@
 -- A node's head, part by part: what follows the ranges, the range count, and the ways out of `head_at`.
 -- Assumes nothing.
+use Rattle.std.proofs.Common.{Ok, Err, Some, None, Option, Result, ℕ, ◌+◌, ◌<◌, ◌≤◌, min, List, ◌≡◌, refl, sym, ap, ◌∙◌, ltb, eqb, length, arith, lt-ltb, le-ltb, eq-eqb, ne_eqb, if◌then◌else◌}
 use Rattle.inline.specs.declared.head.Fault.{Fault}
-use Rattle.std.proofs.Common.{Ok, Err, Some, None, Option, Result}
 use Rattle.leb128.specs.Answers.{unsigned_at}
-use Prim.Native.Nat.{ℕ, ◌+◌, ◌<◌, ◌≤◌, min}
-use mathlib.Core.List.{List}
-use mathlib.Core.Path.{◌≡◌, refl, sym, ap, ◌∙◌}
-use lib.Dec.{ltb, eqb}
-use lib.ListN.{length}
-use native.Mathlib.Omega.{arith}
-use borrow.Author.Tests.{lt-ltb, le-ltb, eq-eqb, ne_eqb}
-use Rattle.reads.specs.Pick.{pick}
 use Rattle.reads.specs.Answers.{u8_at, u32_at}
 use Rattle.inline.specs.Tree.{Range}
 use Rattle.inline.specs.Head.{
@@ -106,7 +98,7 @@ module _ (s : List ℕ) (at : ℕ) (a : Result (ℕ × ℕ) Cause) (A : a ≡ un
   raw-cut c p = ap (with_count s) (sym A ∙ p)
 
   module _ (count n : ℕ) (p : a ≡ Ok (count, n)) where
-    counted : raw_at s at ≡ pick (eqb count 0) (end n) (with_ranges s n (ranges_at count s n))
+    counted : raw_at s at ≡ (if eqb count 0 then end n else with_ranges s n (ranges_at count s n))
     unfolding raw_at with_count
     counted = ap (with_count s) (sym A ∙ p)
 
@@ -176,7 +168,7 @@ head_from (Err f) = head.Bad f
 head-tail :
     (level first : ℕ) (rs : List Range) (T : Tail) →
     head_of level (with_tail first rs T)
-    ≡ pick (ltb 64 level) (head.Bad fault.Level) (head_from (head_tail (length rs) first T))
+    ≡ (if ltb 64 level then head.Bad fault.Level else head_from (head_tail (length rs) first T))
 unfolding head_of with_tail head_tail head_from
 head-tail level first rs (tail.Cut c) = refl
 head-tail level first rs (tail.Late file c) = refl
@@ -185,11 +177,11 @@ head-tail level first rs (tail.Whole t) = refl
 head-ranges :
     (s : List ℕ) (level first count : ℕ) (G : Ranges) → Counted count G →
     head_of level (with_ranges s first G)
-    ≡ pick (ltb 64 level) (head.Bad fault.Level) (head_from (with_place s count first (place_of G)))
+    ≡ (if ltb 64 level then head.Bad fault.Level else head_from (with_place s count first (place_of G)))
 unfolding with_ranges head_of place_of with_place head_from
 head-ranges s level first count (all n rs) g =
     head-tail level first rs (tail_at s n)
-    ∙ ap (λ (k : ℕ). pick (ltb 64 level) (head.Bad fault.Level) (head_from (head_tail k first (tail_at s n)))) g
+    ∙ ap (λ (k : ℕ). if ltb 64 level then head.Bad fault.Level else head_from (head_tail k first (tail_at s n))) g
 head-ranges s level first count (some c rs) g = refl
 
 module _ (s : List ℕ) (level at : ℕ) where

@@ -1,17 +1,22 @@
 -- A judged head from its parts: what follows the ranges, and the ways out of `judge_at`.
 -- Assumes nothing.
+use Rattle.std.proofs.Common.{Ok, Err, Result, ℕ, ◌+◌, ◌<◌, ◌≤◌, List, Bool, ◌≡◌, refl, sym, ap, ◌∙◌, ltb, lt-ltb, le-ltb, if◌then◌else◌, cond}
 use Rattle.inline.specs.declared.judge.Judged.{Judged}
-use Rattle.std.proofs.Common.{Ok, Err, Result}
-use Prim.Native.Nat.{ℕ, ◌+◌, ◌<◌, ◌≤◌}
-use mathlib.Core.List.{List}
-use mathlib.Core.Bool.{Bool}
-use mathlib.Core.Path.{◌≡◌, refl, sym, ap, ◌∙◌}
-use lib.Dec.{ltb}
-use borrow.Author.Tests.{lt-ltb, le-ltb}
-use Rattle.reads.specs.Pick.{pick}
 use Rattle.inline.specs.Tree.{Range}
 use Rattle.inline.specs.Frames.{any_in, first_off}
-use Rattle.inline.specs.Head.{Ranges, all, some, ranges_at, with_line, tail_at, end, cut, with_tail, with_ranges, raw_at}
+use Rattle.inline.specs.Head.{
+  Ranges,
+  all,
+  some,
+  ranges_at,
+  with_line,
+  tail_at,
+  end,
+  cut,
+  with_tail,
+  with_ranges,
+  raw_at,
+}
 use Rattle.inline.specs.Fits.{any_large}
 use Rattle.inline.specs.Judge.{Span, seen_of, seen_at, spans_of, end_of, with_spans, node_of}
 use Rattle.leb128.specs.declared.Cause.{Cause}
@@ -37,7 +42,7 @@ far-line start o kids name file big (Err c) = sym (rw (lt-ltb 4294967295 file bi
 -- a call file that is not
 near :
     (file : ℕ) (x : Result Judged Fault) → file ≤ 4294967295 →
-    x ≡ pick (ltb 4294967295 file) (Err fault.CallFile) x
+    x ≡ (if ltb 4294967295 file then Err fault.CallFile else x)
 near file x l = rw (le-ltb 4294967295 file l)
 
 module _ (s : List ℕ) (start : ℕ) (o : Bool) (at : ℕ) where
@@ -103,16 +108,16 @@ seen_from (Err f) = seen.Bad f
 -- on a level where a node may stand
 seen_tail : Ctx → List Range → Tail → Seen
 seen_tail c rs T =
-    pick (any_large c.base rs) (seen.Bad fault.Sum)
-    (seen_from (end_of (c.base + first_off rs) (any_in c.addr c.base rs) T))
+    if any_large c.base rs then seen.Bad fault.Sum
+    else seen_from (end_of (c.base + first_off rs) (any_in c.addr c.base rs) T)
 
 -- both tests before that of the call file
 tests : Ctx → List Range → Seen → Seen
-tests c rs x = pick (ltb 64 c.level) (seen.Bad fault.Level) (pick (any_large c.base rs) (seen.Bad fault.Sum) x)
+tests c rs x = if ltb 64 c.level then seen.Bad fault.Level else if any_large c.base rs then seen.Bad fault.Sum else x
 
 seen-tail :
     (c : Ctx) (first : ℕ) (rs : List Range) (T : Tail) →
-    seen_of c (with_tail first rs T) ≡ pick (ltb 64 c.level) (seen.Bad fault.Level) (seen_tail c rs T)
+    seen_of c (with_tail first rs T) ≡ (if ltb 64 c.level then seen.Bad fault.Level else seen_tail c rs T)
 unfolding with_tail seen_of end_of seen_tail tests seen_from
 seen-tail c first rs (tail.Cut k) = refl
 seen-tail c first rs (tail.Late file k) =
@@ -123,15 +128,15 @@ seen-tail c first rs (tail.Whole t) =
 seen-ranges :
     (s : List ℕ) (c : Ctx) (first : ℕ) (G : Ranges) →
     seen_of c (with_ranges s first G)
-    ≡ pick (ltb 64 c.level) (seen.Bad fault.Level) (seen_from (with_spans s (spans_of c G)))
+    ≡ (if ltb 64 c.level then seen.Bad fault.Level else seen_from (with_spans s (spans_of c G)))
 unfolding with_ranges seen_of spans_of with_spans seen_tail seen_from
 seen-ranges s c first (all n rs) =
     seen-tail c first rs (tail_at s n)
-    ∙ ap (pick (ltb 64 c.level) (seen.Bad fault.Level))
+    ∙ ap (cond (ltb 64 c.level) (seen.Bad fault.Level))
     (sym (pick-ap (λ (x : Span). seen_from (with_spans s x)) (any_large c.base rs) (Err fault.Sum)
     (Ok (n, c.base + first_off rs, any_in c.addr c.base rs))))
 seen-ranges s c first (some k rs) =
-    ap (pick (ltb 64 c.level) (seen.Bad fault.Level))
+    ap (cond (ltb 64 c.level) (seen.Bad fault.Level))
     (sym (pick-ap (λ (x : Span). seen_from (with_spans s x)) (any_large c.base rs) (Err fault.Sum)
     (Err (fault.Unread k))))
 

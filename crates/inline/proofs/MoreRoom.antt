@@ -1,19 +1,9 @@
 -- More room changes nothing but 14: a block that is read with less room either has more frames than that, or gives what
 -- it gives with more.
 -- Assumes nothing.
-use Rattle.std.proofs.Common.{Result}
+use Rattle.std.proofs.Common.{Result, ℕ, zero, suc, ◌+◌, ◌≤◌, Bool, true, false, List, [], ◌++◌, ◌⊎◌, inl, inr, ⊎_elim, ◌≡◌, refl, sym, ap, subst, ltb, eqb, length, arith, le-ltb, ltb-false, if◌then◌else◌}
 use Rattle.inline.specs.declared.head.Fault.{Fault}
-use Prim.Native.Nat.{ℕ, zero, suc, ◌+◌, ◌≤◌}
-use mathlib.Core.Bool.{Bool, true, false}
-use mathlib.Core.List.{List, [], ◌++◌}
-use mathlib.Core.Logic.{◌⊎◌, inl, inr, ⊎_elim}
-use mathlib.Core.Path.{◌≡◌, refl, sym, ap, subst}
-use lib.Dec.{ltb, eqb}
-use lib.ListN.{length}
-use native.Mathlib.Omega.{arith}
-use borrow.Author.Tests.{le-ltb, ltb-false}
 use Rattle.types.specs.declared.InlineFrame.{InlineFrame}
-use Rattle.reads.specs.Pick.{pick}
 use Rattle.inline.specs.Head.{Raw, end, cut, part, late, node, raw_at}
 use Rattle.inline.specs.Judge.{seen_of, seen_at}
 use Rattle.inline.specs.Skip.{skip_list}
@@ -46,7 +36,7 @@ use Rattle.inline.specs.declared.judge.Seen.TheVariants as seen
 abbrev Or14 : Out → Out → Type 0
 Or14 less more = (less ≡ bad fault.Room) ⊎ (less ≡ more)
 
-pick-or : (b : Bool) (x y v w : Out) → Or14 x v → Or14 y w → Or14 (pick b x y) (pick b v w)
+pick-or : (b : Bool) (x y v w : Out) → Or14 x v → Or14 y w → Or14 (if b then x else y) (if b then v else w)
 pick-or true x y v w g h = g
 pick-or false x y v w g h = h
 
@@ -61,9 +51,9 @@ module _ (room more : ℕ) (l : room ≤ more) where
   put-room level addr base f acc = go (ltb room (length (acc ++ counted f))) refl
     where
       go : (b : Bool) → ltb room (length (acc ++ counted f)) ≡ b →
-          (pick b full (put (acc ++ counted f)) ≡ full)
-          ⊎ (pick b full (put (acc ++ counted f))
-          ≡ pick (ltb more (length (acc ++ counted f))) full (put (acc ++ counted f)))
+          ((if b then full else put (acc ++ counted f)) ≡ full)
+          ⊎ ((if b then full else put (acc ++ counted f))
+          ≡ (if ltb more (length (acc ++ counted f)) then full else put (acc ++ counted f)))
       go true e = inl refl
       go false e =
           let h = ltb-false room (length (acc ++ counted f)) e in

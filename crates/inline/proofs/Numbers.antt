@@ -1,15 +1,8 @@
 -- Numbers at a place: having read one says where reading goes on, and that this is within the bytes.
 -- Assumes nothing.
-use Rattle.std.proofs.Common.{None, Option, Ok, Err, Some, Result}
+use Rattle.std.proofs.Common.{None, Option, Ok, Err, Some, Result, ℕ, ◌+◌, ◌<◌, ◌≤◌, Bool, true, false, List, ◌≡◌, refl, sym, ◌∙◌, length, arith, if◌then◌else◌}
 use Rattle.leb128.specs.declared.Cause.{Cause}
-use Prim.Native.Nat.{ℕ, ◌+◌, ◌<◌, ◌≤◌}
-use mathlib.Core.Bool.{Bool, true, false}
-use mathlib.Core.List.{List}
-use mathlib.Core.Path.{◌≡◌, refl, sym, ◌∙◌}
-use lib.ListN.{length}
-use native.Mathlib.Omega.{arith}
 use Rattle.std.specs.Option.{ok_or}
-use Rattle.reads.specs.Pick.{pick}
 use Rattle.reads.specs.Answers.{u8_at, u32_at}
 use Rattle.reads.proofs.Places.{within}
 use Rattle.leb128.specs.Answers.{unsigned_at}
@@ -20,13 +13,13 @@ pub never : {A : Type 0} → ◌≡◌ {A = ℕ} 0 1 → A
 never e = absurd (omega arith)
 
 -- a function of a choice is the choice of its values
-pub pick-ap : {A B : Type 0} (f : A → B) (t : Bool) (x y : A) → f (pick t x y) ≡ pick t (f x) (f y)
+pub pick-ap : {A B : Type 0} (f : A → B) (t : Bool) (x y : A) → f (if t then x else y) ≡ (if t then f x else f y)
 pick-ap f true x y = refl
 pick-ap f false x y = refl
 
 -- a choice has what both of its ends have, each under its test
 pub pick-has :
-    {A : Type 0} (P : A → Type 0) (t : Bool) (x y : A) → (t ≡ true → P x) → (t ≡ false → P y) → P (pick t x y)
+    {A : Type 0} (P : A → Type 0) (t : Bool) (x y : A) → (t ≡ true → P x) → (t ≡ false → P y) → P (if t then x else y)
 pick-has P true x y l r = l refl
 pick-has P false x y l r = r refl
 

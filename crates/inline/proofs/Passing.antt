@@ -1,12 +1,6 @@
 -- Passing over bytes is passing over the tree that they hold.
 -- Assumes nothing.
-use Rattle.std.proofs.Common.{Ok, Err, Result}
-use Prim.Native.Nat.{ℕ, zero, suc, ◌+◌}
-use mathlib.Core.List.{List}
-use mathlib.Core.Bool.{Bool, true, false}
-use mathlib.Core.Path.{◌≡◌, refl, sym, ap, ◌∙◌}
-use lib.Dec.{ltb, eqb}
-use Rattle.reads.specs.Pick.{pick}
+use Rattle.std.proofs.Common.{Ok, Err, Result, ℕ, zero, suc, ◌+◌, List, Bool, true, false, ◌≡◌, refl, sym, ap, ◌∙◌, ltb, eqb, if◌then◌else◌}
 use Rattle.inline.specs.Tree.{Node, Forest, none}
 use Rattle.inline.specs.Head.{Raw, end, cut, part, late, node, raw_at, whole_head, head_of, head_at}
 use Rattle.inline.specs.Skip.{over_kids, after_head, then_skip, skip_list}
@@ -20,7 +14,7 @@ use Rattle.inline.proofs.Numbers.{pick-ap}
 
 -- what a list of nodes that was read comes to where it is passed over
 unfoldable pub passed_of : ℕ → Read → Result ℕ Fault
-passed_of level (got n t) = pick (deep_in level t) (Err fault.Level) (Ok n)
+passed_of level (got n t) = if deep_in level t then Err fault.Level else Ok n
 passed_of level (torn t) = Err (fault_of level t)
 
 -- ---- a node on level 65
@@ -63,7 +57,7 @@ module _ (level : ℕ) (p : ltb 64 level ≡ false) (self : Node) where
     where
       by-deep :
           (d : Bool) → deep_in (level + 1) t ≡ d →
-          then_skip next (over_kids (pick d (Err fault.Level) (Ok n)))
+          then_skip next (over_kids (if d then Err fault.Level else Ok n))
           ≡ passed_of level (with_rest self t (go n))
       by-deep true q = sym (kids-deep t q (go n))
       by-deep false q = ih n ∙ sym (kids-fit t q (go n))
@@ -73,7 +67,7 @@ module _ (level : ℕ) (p : ltb 64 level ≡ false) (self : Node) where
 
 part_step :
     (next kids : ℕ → Result ℕ Fault) (d : Bool) (f : Fault) →
-    then_skip next (after_head kids (pick d (head.Bad fault.Level) (head.Bad f))) ≡ Err (pick d fault.Level f)
+    then_skip next (after_head kids (if d then head.Bad fault.Level else head.Bad f)) ≡ Err (if d then fault.Level else f)
 unfolding then_skip after_head
 part_step next kids true f = refl
 part_step next kids false f = refl
@@ -92,16 +86,17 @@ module _ (f : ℕ) (s : List ℕ) (level : ℕ)
   skip-raw (node w) = by_level (ltb 64 level) refl
     where
       K : Read
-      K = pick (eqb w.kids 0) (got w.next none) (read_list f s w.next)
+      K = if eqb w.kids 0 then got w.next none else read_list f s w.next
 
       by_level :
           (d : Bool) → ltb 64 level ≡ d →
           then_skip (skip_list f s level)
-          (after_head (skip_list f s (level + 1)) (pick d (head.Bad fault.Level) (whole_head w)))
+          (after_head (skip_list f s (level + 1)) (if d then head.Bad fault.Level else whole_head w))
           ≡ passed_of level (with_list (read_list f s) w.self K)
       by_level true p = sym (deep-node level p (read_list f s) w.self K)
       by_level false p =
-          ap (λ (x : Result ℕ Fault). then_skip (skip_list f s level) (pick (eqb w.kids 0) (step.Past w.next) (over_kids x)))
+          ap (λ (x : Result ℕ Fault).
+          then_skip (skip_list f s level) (if eqb w.kids 0 then step.Past w.next else over_kids x))
           (ih (level + 1) w.next)
           ∙ ap (then_skip (skip_list f s level))
           (sym (pick-ap (λ (x : Read). over_kids (passed_of (level + 1) x)) (eqb w.kids 0) (got w.next none)

@@ -1,15 +1,8 @@
 -- Where reading goes on after a head: further on, within the bytes; and a node stands on one of 64 levels.
 -- Assumes nothing.
-use Rattle.std.proofs.Common.{Ok, Err, Some, None, Option, Result}
+use Rattle.std.proofs.Common.{Ok, Err, Some, None, Option, Result, ℕ, ◌+◌, ◌<◌, ◌≤◌, List, ◌≡◌, sym, subst, ltb, eqb, length, arith, ltb-false}
 use Rattle.leb128.specs.Answers.{unsigned_at}
 use Rattle.leb128.specs.declared.Cause.{Cause}
-use Prim.Native.Nat.{ℕ, ◌+◌, ◌<◌, ◌≤◌}
-use mathlib.Core.List.{List}
-use mathlib.Core.Path.{◌≡◌, sym, subst}
-use lib.Dec.{ltb, eqb}
-use lib.ListN.{length}
-use native.Mathlib.Omega.{arith}
-use borrow.Author.Tests.{ltb-false}
 use Rattle.reads.specs.Answers.{u8_at, u32_at}
 use Rattle.inline.specs.Tree.{Range}
 use Rattle.inline.specs.Head.{
@@ -59,7 +52,8 @@ TailGoes at len (tail.Late file k) = Unit {0}
 TailGoes at len (tail.Whole t) = (at < t.next) × (t.next ≤ len)
 
 line-goes :
-    (at m len kids name file : ℕ) (r : Result (ℕ × ℕ) Cause) → at ≤ m → NumGoes m len r → TailGoes at len (with_line kids name file r)
+    (at m len kids name file : ℕ) (r : Result (ℕ × ℕ) Cause) → at ≤ m →
+    NumGoes m len r → TailGoes at len (with_line kids name file r)
 unfolding with_line
 line-goes at m len kids name file (Ok (v, n)) le g = (omega (arith, g.0), g.1)
 line-goes at m len kids name file (Err k) le g = tt
@@ -112,7 +106,8 @@ with-ranges-goes s at m first (all n rs) le g =
     with-tail-goes at n (length s) first rs (tail_at s n) (omega (arith, g.0)) (tail-goes s n)
 with-ranges-goes s at m first (some k rs) le g = tt
 
-count-goes : (s : List ℕ) (at : ℕ) (r : Result (ℕ × ℕ) Cause) → NumGoes at (length s) r → RawGoes at (length s) (with_count s r)
+count-goes :
+    (s : List ℕ) (at : ℕ) (r : Result (ℕ × ℕ) Cause) → NumGoes at (length s) r → RawGoes at (length s) (with_count s r)
 unfolding with_count
 count-goes s at (Ok (count, n)) g =
     pick-has (RawGoes at (length s)) (eqb count 0) (end n) (with_ranges s n (ranges_at count s n))

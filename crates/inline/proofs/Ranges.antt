@@ -1,12 +1,7 @@
 -- Ranges at a place: one, then all of them, passed over; and where reading goes on after them.
 -- Assumes nothing.
-use Rattle.std.proofs.Common.{Ok, Err, Result}
+use Rattle.std.proofs.Common.{Ok, Err, Result, ℕ, zero, suc, ◌<◌, ◌≤◌, List, ◌≡◌, refl, sym, ap, ◌∙◌, length, arith}
 use Rattle.leb128.specs.Answers.{unsigned_at}
-use Prim.Native.Nat.{ℕ, zero, suc, ◌<◌, ◌≤◌}
-use mathlib.Core.List.{List}
-use mathlib.Core.Path.{◌≡◌, refl, sym, ap, ◌∙◌}
-use lib.ListN.{length}
-use native.Mathlib.Omega.{arith}
 use Rattle.inline.specs.Tree.{Range}
 use Rattle.inline.specs.Head.{
   One,
@@ -67,7 +62,8 @@ unfolding with_size
 size-goes at m len off (Ok (v, n)) le g = (omega (arith, g.0), g.1)
 size-goes at m len off (Err c) le g = tt
 
-off-goes : (s : List ℕ) (at : ℕ) (r : Result (ℕ × ℕ) Cause) → NumGoes at (length s) r → OneGoes at (length s) (with_off s r)
+off-goes :
+    (s : List ℕ) (at : ℕ) (r : Result (ℕ × ℕ) Cause) → NumGoes at (length s) r → OneGoes at (length s) (with_off s r)
 unfolding with_off
 off-goes s at (Ok (v, n)) g = size-goes at n (length s) v (unsigned_at s n) (omega (arith, g.0)) (num-goes s n)
 off-goes s at (Err c) g = tt

@@ -1,15 +1,7 @@
 -- A tree that is there in full says its frames exactly where it fits and there is room.
 -- Assumes nothing.
-use Prim.Native.Nat.{ℕ, ◌+◌, ◌≤◌}
-use mathlib.Core.List.{List, [], ◌++◌, append_assoc, append-nil}
-use mathlib.Core.Bool.{Bool, true, false}
-use mathlib.Core.Path.{◌≡◌, refl, sym, ap, ◌∙◌}
-use lib.Dec.{ltb}
-use lib.ListN.{length, length-append}
-use native.Mathlib.Omega.{arith}
-use borrow.Author.Tests.{le-ltb, ltb-false}
+use Rattle.std.proofs.Common.{ℕ, ◌+◌, ◌≤◌, List, [], ◌++◌, append_assoc, append-nil, Bool, true, false, ◌≡◌, refl, sym, ap, ◌∙◌, ltb, length, length-append, arith, le-ltb, ltb-false, if◌then◌else◌}
 use Rattle.types.specs.declared.InlineFrame.{InlineFrame}
-use Rattle.reads.specs.Pick.{pick}
 use Rattle.inline.specs.Tree.{Node, Forest, none, tree}
 use Rattle.inline.specs.Frames.{any_in, child_base, frame_of, named, frames}
 use Rattle.inline.specs.Fits.{any_large}
@@ -36,11 +28,11 @@ node-frames :
     (w ≡ true → (a : List InlineFrame) → length (a ++ frames c.addr (child_base c.base self) kids) ≤ c.room →
     say_forest (below_node c self) kids a ≡ fine (a ++ frames c.addr (child_base c.base self) kids)) →
     deep_in (c.level + 1) kids ≡ false →
-    length (acc ++ pick w (named self ++ frames c.addr (child_base c.base self) kids) []) ≤ c.room →
-    pick w
-    (and_then (say_forest (below_node c self) kids) (said_put (put_frame c (frame_of self) acc)))
-    (pick (deep_in (c.level + 1) kids) (wrong fault.Level) (fine acc))
-    ≡ fine (acc ++ pick w (named self ++ frames c.addr (child_base c.base self) kids) [])
+    length (acc ++ (if w then named self ++ frames c.addr (child_base c.base self) kids else [])) ≤ c.room →
+    (if w
+    then and_then (say_forest (below_node c self) kids) (said_put (put_frame c (frame_of self) acc))
+    else if deep_in (c.level + 1) kids then wrong fault.Level else fine acc)
+    ≡ fine (acc ++ (if w then named self ++ frames c.addr (child_base c.base self) kids else []))
 unfolding and_then
 node-frames c self kids acc true ih d le =
     let below = frames c.addr (child_base c.base self) kids in
@@ -61,7 +53,7 @@ unfolding say_forest frames EachJudged Levels and_then
 say-frames none c acc S F L le = ap fine (sym (append-nil acc))
 say-frames (tree self kids rest) c acc S F L le =
     let w = any_in c.addr c.base self.ranges in
-    let x = pick w (named self ++ frames c.addr (child_base c.base self) kids) [] in
+    let x = (if w then named self ++ frames c.addr (child_base c.base self) kids else []) in
     let l₁ = length-append acc (x ++ frames c.addr c.base rest) in
     let l₂ = length-append x (frames c.addr c.base rest) in
     let l₃ = length-append acc x in
@@ -95,7 +87,7 @@ put-sound c f acc b p = go (ltb c.room (length (acc ++ counted f))) refl p
   where
     go :
         (t : Bool) → ltb c.room (length (acc ++ counted f)) ≡ t →
-        said_put (pick t full (put (acc ++ counted f))) ≡ fine b → Fine c.room acc (counted f) b
+        said_put (if t then full else put (acc ++ counted f)) ≡ fine b → Fine c.room acc (counted f) b
     go true h q = no-fine q
     go false h q =
         let e : b ≡ acc ++ counted f = cc in
@@ -124,7 +116,7 @@ pub record Sound (c : Ctx) (t : Forest) (acc b : List InlineFrame) : Type 0 wher
 
 judged-sound :
     (d a b : Bool) (J : Said) (all : List InlineFrame) →
-    pick d (wrong fault.Level) (pick a (wrong fault.Sum) (pick b (wrong fault.CallFile) J)) ≡ fine all →
+    (if d then wrong fault.Level else if a then wrong fault.Sum else if b then wrong fault.CallFile else J) ≡ fine all →
     (d ≡ false) × (a ≡ false) × (b ≡ false) × (J ≡ fine all)
 judged-sound true a b J all p = no-fine p
 judged-sound false true b J all p = no-fine p
@@ -132,7 +124,7 @@ judged-sound false false true J all p = no-fine p
 judged-sound false false false J all p = (refl, refl, refl, p)
 
 deep-sound :
-    (d : Bool) (acc b : List InlineFrame) → pick d (wrong fault.Level) (fine acc) ≡ fine b → (d ≡ false) × (b ≡ acc)
+    (d : Bool) (acc b : List InlineFrame) → (if d then wrong fault.Level else fine acc) ≡ fine b → (d ≡ false) × (b ≡ acc)
 deep-sound true acc b p = no-fine p
 deep-sound false acc b p = (refl, (cc))
 
@@ -141,16 +133,16 @@ record NodeSound (c : Ctx) (self : Node) (kids : Forest) (w : Bool) (acc b : Lis
   sums : w ≡ true → Sums c.addr (child_base c.base self) kids
   files : w ≡ true → Files c.addr (child_base c.base self) kids
   levels : Levels (c.level + 1) kids
-  frames-are : Fine c.room acc (pick w (named self ++ frames c.addr (child_base c.base self) kids) []) b
+  frames-are : Fine c.room acc (if w then named self ++ frames c.addr (child_base c.base self) kids else []) b
 
 node-sound :
     (c : Ctx) (self : Node) (kids : Forest) (acc b : List InlineFrame) (w : Bool) →
     ((a b : List InlineFrame) → length a ≤ c.room → say_forest (below_node c self) kids a ≡ fine b →
     Sound (below_node c self) kids a b) →
     length acc ≤ c.room →
-    pick w
-    (and_then (say_forest (below_node c self) kids) (said_put (put_frame c (frame_of self) acc)))
-    (pick (deep_in (c.level + 1) kids) (wrong fault.Level) (fine acc))
+    (if w
+    then and_then (say_forest (below_node c self) kids) (said_put (put_frame c (frame_of self) acc))
+    else if deep_in (c.level + 1) kids then wrong fault.Level else fine acc)
     ≡ fine b →
     NodeSound c self kids w acc b
 node-sound c self kids acc b true ih le p =
@@ -186,12 +178,12 @@ say-sound none c acc b le p =
     }
 say-sound (tree self kids rest) c acc b le p =
     let w = any_in c.addr c.base self.ranges in
-    let J = pick w
-    (and_then (say_forest (below_node c self) kids) (said_put (put_frame c (frame_of self) acc)))
-    (pick (deep_in (c.level + 1) kids) (wrong fault.Level) (fine acc)) in
+    let J = (if w
+    then and_then (say_forest (below_node c self) kids) (said_put (put_frame c (frame_of self) acc))
+    else if deep_in (c.level + 1) kids then wrong fault.Level else fine acc) in
     let o = then-fine (say_forest c rest)
-    (pick (ltb 64 c.level) (wrong fault.Level) (pick (any_large c.base self.ranges) (wrong fault.Sum)
-    (pick (ltb 4294967295 self.file) (wrong fault.CallFile) J))) b p in
+    (if ltb 64 c.level then wrong fault.Level else if any_large c.base self.ranges then wrong fault.Sum
+    else if ltb 4294967295 self.file then wrong fault.CallFile else J) b p in
     let j = judged-sound (ltb 64 c.level) (any_large c.base self.ranges) (ltb 4294967295 self.file) J
     o.0 o.1 in
     let n = node-sound c self kids acc o.0 w (say-sound kids (below_node c self)) le j.3 in

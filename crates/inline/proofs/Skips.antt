@@ -1,15 +1,6 @@
 -- One node passed over, from its head; and what is left of a list that is passed over.
 -- Assumes nothing.
-use Rattle.std.proofs.Common.{Ok, Err, Result}
-use Prim.Native.Nat.{ℕ, zero, suc, ◌+◌, ◌-◌, ◌<◌, ◌≤◌}
-use mathlib.Core.List.{List}
-use mathlib.Core.Bool.{Bool}
-use mathlib.Core.Path.{◌≡◌, refl, sym, ap, subst, ◌∙◌}
-use lib.Dec.{eqb}
-use lib.ListN.{length}
-use native.Mathlib.Omega.{arith}
-use borrow.Author.Tests.{eq-eqb, ne_eqb}
-use Rattle.reads.specs.Pick.{pick}
+use Rattle.std.proofs.Common.{Ok, Err, Result, ℕ, zero, suc, ◌+◌, ◌-◌, ◌<◌, ◌≤◌, List, Bool, ◌≡◌, refl, sym, ap, subst, ◌∙◌, eqb, length, arith, eq-eqb, ne_eqb, if◌then◌else◌}
 use Rattle.inline.specs.Head.{head_at}
 use Rattle.inline.specs.Skip.{over_kids, after_head, then_skip, skip_list, skip_node, StepGoes, Skipped}
 use Rattle.inline.specs.declared.head.Fault.{Fault}
@@ -56,7 +47,7 @@ module _ (s : List ℕ) (level at : ℕ) (h : Head) (H : h ≡ head_at s level a
   module _ (i : NodeHead) (e : h ≡ head.Node i) where
     with-kids :
         (fuel : ℕ) →
-        pick (eqb i.kids 0) (step.Past i.next) (over_kids (skip_list fuel s (level + 1) i.next))
+        (if eqb i.kids 0 then step.Past i.next else over_kids (skip_list fuel s (level + 1) i.next))
         ≡ skip_node fuel s level at
     unfolding after_head
     with-kids fuel = ap (after_head (skip_list fuel s (level + 1))) (sym e) ∙ node-is fuel
@@ -67,7 +58,7 @@ module _ (s : List ℕ) (level at : ℕ) (h : Head) (H : h ≡ head_at s level a
         record {
           goes = (g.0, g.1);
           says = λ f le.
-              ap (λ (b : Bool). pick b (step.Past i.next) (over_kids (skip_list f s (level + 1) i.next)))
+              ap (λ (b : Bool). if b then step.Past i.next else over_kids (skip_list f s (level + 1) i.next))
               (sym (eq-eqb i.kids 0 z))
               ∙ with-kids f;
         }
@@ -82,7 +73,7 @@ module _ (s : List ℕ) (level at : ℕ) (h : Head) (H : h ≡ head_at s level a
           left = record { fuel = f; enough = omega (arith, g.0, g.1); same = refl };
           over =
               sym (with-kids f)
-              ∙ ap (λ (b : Bool). pick b (step.Past i.next) (over_kids (skip_list f s (level + 1) i.next)))
+              ∙ ap (λ (b : Bool). if b then step.Past i.next else over_kids (skip_list f s (level + 1) i.next))
               (ne_eqb i.kids 0 z);
         }
 

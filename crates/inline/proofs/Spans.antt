@@ -1,17 +1,8 @@
 -- Ranges judged at an address: one, and then all of them in one pass that keeps the first start.
 -- Assumes nothing.
+use Rattle.std.proofs.Common.{Some, None, Option, ⊎_elim, Ok, Err, ℕ, zero, suc, ◌+◌, ◌<◌, ◌≤◌, List, [], ◌∷◌, Bool, true, false, ◌≡◌, refl, sym, ap, subst, ◌∙◌, ltb, leb, length, arith, lt-ltb, le-ltb, if◌then◌else◌, cond}
 use Rattle.std.specs.Option.{SomeIff}
 use Rattle.std.proofs.lemmas.Bool.{cases_lt}
-use Rattle.std.proofs.Common.{Some, None, Option, ⊎_elim, Ok, Err}
-use Prim.Native.Nat.{ℕ, zero, suc, ◌+◌, ◌<◌, ◌≤◌}
-use mathlib.Core.List.{List, [], ◌∷◌}
-use mathlib.Core.Bool.{Bool, true, false}
-use mathlib.Core.Path.{◌≡◌, refl, sym, ap, subst, ◌∙◌}
-use lib.Dec.{ltb, leb}
-use lib.ListN.{length}
-use native.Mathlib.Omega.{arith}
-use borrow.Author.Tests.{lt-ltb, le-ltb}
-use Rattle.reads.specs.Pick.{pick}
 use Rattle.inline.specs.Tree.{Range}
 use Rattle.inline.specs.Frames.{in_range, any_in, first_off}
 use Rattle.inline.specs.Head.{One, one, unread, range_at, Ranges, all, some, and_range, then_range, ranges_at}
@@ -56,7 +47,7 @@ module _ (s : List ℕ) (c : Ctx) (at : ℕ) where
 
     pub span-at :
         (t : Bool) → c.base + off ≤ most_address → c.base + off + size ≤ most_address →
-        t ≡ pick (leb (c.base + off) c.addr) (ltb c.addr (c.base + off + size)) false →
+        t ≡ (if leb (c.base + off) c.addr then ltb c.addr (c.base + off + size) else false) →
         Ok (n, c.base + off, t) ≡ span_of c (range_at s at)
     unfolding span_of too_large in_range
     span-at t h k w = rw (w, e, le-ltb most_address (c.base + off) h, le-ltb most_address (c.base + off + size) k)
@@ -84,14 +75,14 @@ span-next s c at r R n start inside p =
 
 first_from : Bool → ℕ → ℕ → List Range → ℕ
 first_from fresh first base [] = first
-first_from fresh first base (r ∷ rs) = pick fresh (base + r.off) first
+first_from fresh first base (r ∷ rs) = if fresh then base + r.off else first
 
 pub spans_from : Ctx → Bool → ℕ → Bool → Ranges → Span
 spans_from c fresh first held (all n rs) =
-    pick (any_large c.base rs) (Err fault.Sum)
-    (Ok (n, first_from fresh first c.base rs, pick held true (any_in c.addr c.base rs)))
+    if any_large c.base rs then Err fault.Sum
+    else Ok (n, first_from fresh first c.base rs, if held then true else any_in c.addr c.base rs)
 spans_from c fresh first held (some k rs) =
-    pick (any_large c.base rs) (Err fault.Sum) (Err (fault.Unread k))
+    if any_large c.base rs then Err fault.Sum else Err (fault.Unread k)
 
 first-start : (base : ℕ) (rs : List Range) → first_from true base base rs ≡ base + first_off rs
 unfolding first_from first_off
@@ -113,20 +104,20 @@ spans-start c (some k rs) = refl
 and-range :
     (c : Ctx) (fresh : Bool) (first : ℕ) (held : Bool) (r : Range) (G : Ranges) →
     spans_from c fresh first held (and_range r G)
-    ≡ pick (too_large c.base r) (Err fault.Sum)
-    (spans_from c false (pick fresh (c.base + r.off) first) (pick held true (in_range c.addr c.base r)) G)
+    ≡ (if too_large c.base r then Err fault.Sum
+    else spans_from c false (if fresh then c.base + r.off else first) (if held then true else in_range c.addr c.base r) G)
 unfolding spans_from and_range any_large any_in first_from
 and-range c fresh first held r (all n rs) = rw first-later (go (too_large c.base r) held)
   where
     f : ℕ
-    f = pick fresh (c.base + r.off) first
+    f = if fresh then c.base + r.off else first
 
     go :
         (t held : Bool) →
-        pick {A = Span} (pick t true (any_large c.base rs)) (Err fault.Sum)
-        (Ok (n, f, pick held true (pick (in_range c.addr c.base r) true (any_in c.addr c.base rs))))
-        ≡ pick t (Err fault.Sum) (pick (any_large c.base rs) (Err fault.Sum)
-        (Ok (n, f, pick (pick held true (in_range c.addr c.base r)) true (any_in c.addr c.base rs))))
+        cond {A = Span} (if t then true else any_large c.base rs) (Err fault.Sum)
+        (Ok (n, f, if held then true else if in_range c.addr c.base r then true else any_in c.addr c.base rs))
+        ≡ (if t then Err fault.Sum else if any_large c.base rs then Err fault.Sum
+        else Ok (n, f, if if held then true else in_range c.addr c.base r then true else any_in c.addr c.base rs))
     go true held = refl
     go false true = refl
     go false false = refl
@@ -134,16 +125,16 @@ and-range c fresh first held r (some k rs) = go (too_large c.base r)
   where
     go :
         (t : Bool) →
-        pick {A = Span} (pick t true (any_large c.base rs)) (Err fault.Sum) (Err (fault.Unread k))
-        ≡ pick t (Err fault.Sum)
-        (pick (any_large c.base rs) (Err fault.Sum) (Err (fault.Unread k)))
+        cond {A = Span} (if t then true else any_large c.base rs) (Err fault.Sum) (Err (fault.Unread k))
+        ≡ (if t then Err fault.Sum
+        else if any_large c.base rs then Err fault.Sum else Err (fault.Unread k))
     go true = refl
     go false = refl
 
 -- from what one range comes to
 from_span : Ctx → Bool → ℕ → Bool → (ℕ → Ranges) → Span → Span
 from_span c fresh first held go (Ok (n, start, inside)) =
-    spans_from c false (pick fresh start first) (pick held true inside) (go n)
+    spans_from c false (if fresh then start else first) (if held then true else inside) (go n)
 from_span c fresh first held go (Err f) = Err f
 
 then-span :
@@ -173,7 +164,7 @@ module _ (s : List ℕ) (c : Ctx) (fresh : Bool) (left rest first : ℕ) (held :
   -- what is kept after a turn
   pub spans-at :
       (n start : ℕ) (inside : Bool) → r ≡ Ok (n, start, inside) →
-      (x : ℕ) → x ≡ pick fresh start first → (y : Bool) → y ≡ pick held true inside →
+      (x : ℕ) → x ≡ (if fresh then start else first) → (y : Bool) → y ≡ (if held then true else inside) →
       spans_from c fresh first held (ranges_at left s to) ≡ spans_from c false x y (ranges_at rest s n)
   unfolding from_span
   spans-at n start inside p x ex y ey =

@@ -1,13 +1,7 @@
 -- Reading judged nodes off the bytes says what the tree says that the bytes hold.
 -- Assumes nothing.
-use Rattle.std.proofs.Common.{Ok, Err, Result}
-use Prim.Native.Nat.{ℕ, zero, suc, ◌+◌}
-use mathlib.Core.List.{List}
-use mathlib.Core.Bool.{Bool, true, false}
-use mathlib.Core.Path.{◌≡◌, refl, sym, ap, ◌∙◌}
-use lib.Dec.{ltb, eqb}
+use Rattle.std.proofs.Common.{Ok, Err, Result, ℕ, zero, suc, ◌+◌, List, Bool, true, false, ◌≡◌, refl, sym, ap, ◌∙◌, ltb, eqb, if◌then◌else◌, cond}
 use Rattle.types.specs.declared.InlineFrame.{InlineFrame}
-use Rattle.reads.specs.Pick.{pick}
 use Rattle.inline.specs.Tree.{Node, Forest, none}
 use Rattle.inline.specs.Frames.{any_in, child_base, frame_of}
 use Rattle.inline.specs.Head.{Whole, Raw, end, cut, part, late, node, raw_at}
@@ -60,17 +54,17 @@ use Rattle.inline.proofs.Passing.{passed_of, skip_is}
 
 node_said : Bool → Bool → Bool → Bool → Ctx → Node → Forest → List InlineFrame → Said
 node_said d a b w c self t acc =
-    pick d (wrong fault.Level) (pick a (wrong fault.Sum) (pick b (wrong fault.CallFile)
-    (pick w
-    (and_then (say_forest (below_node c self) t) (said_put (put_frame c (frame_of self) acc)))
-    (pick (deep_in (c.level + 1) t) (wrong fault.Level) (fine acc)))))
+    if d then wrong fault.Level else if a then wrong fault.Sum else if b then wrong fault.CallFile
+    else if w
+    then and_then (say_forest (below_node c self) t) (said_put (put_frame c (frame_of self) acc))
+    else if deep_in (c.level + 1) t then wrong fault.Level else fine acc
 
 node_fault : Bool → Bool → Bool → Bool → Ctx → Node → Torn → List InlineFrame → Fault
 node_fault d a b w c self t acc =
-    pick d fault.Level (pick a fault.Sum (pick b fault.CallFile
-    (pick w
-    (or_else (say_torn (below_node c self) t) (said_put (put_frame c (frame_of self) acc)))
-    (fault_of (c.level + 1) t))))
+    if d then fault.Level else if a then fault.Sum else if b then fault.CallFile
+    else if w
+    then or_else (say_torn (below_node c self) t) (said_put (put_frame c (frame_of self) acc))
+    else fault_of (c.level + 1) t
 
 node_out : Bool → Bool → Bool → Bool → Ctx → Node → Read → List InlineFrame → Out
 node_out d a b w c self (got m t) acc = out_of m (node_said d a b w c self t acc)
@@ -101,8 +95,8 @@ module _ (c : Ctx) (self : Node) where
     where
       by-deep :
           (d : Bool) →
-          after_skip acc (pick d (Err fault.Level) (Ok m)) ≡ out_of m
-          (pick d (wrong fault.Level) (fine acc))
+          after_skip acc (if d then Err fault.Level else Ok m) ≡ out_of m
+          (if d then wrong fault.Level else fine acc)
       by-deep true = refl
       by-deep false = refl
   shut_out (torn t) acc = refl
@@ -183,8 +177,8 @@ module _ (c : Ctx) (self : Node) where
 part-is :
     (go : ℕ → List InlineFrame → Out) (reads : Ctx → ℕ → List InlineFrame → Out) (skips : ℕ → Result ℕ Fault) (c : Ctx)
     (acc : List InlineFrame) (f : Fault) (d a : Bool) →
-    then_seen go (after_seen reads skips c acc (pick d (seen.Bad fault.Level) (pick a (seen.Bad fault.Sum) (seen.Bad f))))
-    ≡ bad (pick d fault.Level (pick a fault.Sum f))
+    then_seen go (after_seen reads skips c acc (if d then seen.Bad fault.Level else if a then seen.Bad fault.Sum else seen.Bad f))
+    ≡ bad (if d then fault.Level else if a then fault.Sum else f)
 unfolding after_seen then_seen
 part-is go reads skips c acc f true a = refl
 part-is go reads skips c acc f false true = refl
@@ -194,8 +188,8 @@ late_is :
     (go : ℕ → List InlineFrame → Out) (reads : Ctx → ℕ → List InlineFrame → Out) (skips : ℕ → Result ℕ Fault) (c : Ctx)
     (acc : List InlineFrame) (f : Fault) (d a b : Bool) →
     then_seen go (after_seen reads skips c acc
-    (pick d (seen.Bad fault.Level) (pick a (seen.Bad fault.Sum) (pick b (seen.Bad fault.CallFile) (seen.Bad f)))))
-    ≡ bad (pick d fault.Level (pick a fault.Sum (pick b fault.CallFile f)))
+    (if d then seen.Bad fault.Level else if a then seen.Bad fault.Sum else if b then seen.Bad fault.CallFile else seen.Bad f))
+    ≡ bad (if d then fault.Level else if a then fault.Sum else if b then fault.CallFile else f)
 unfolding after_seen then_seen
 late_is go reads skips c acc f true a b = refl
 late_is go reads skips c acc f false true b = refl
@@ -207,7 +201,7 @@ module _ (f : ℕ) (s : List ℕ)
     (c : Ctx) where
   -- the children's list of a node that may have none
   kids_of : Whole → Read
-  kids_of v = pick (eqb v.kids 0) (got v.next none) (read_list f s v.next)
+  kids_of v = if eqb v.kids 0 then got v.next none else read_list f s v.next
 
   judged_as : Bool → Whole → Judged
   judged_as w v = record {
@@ -226,17 +220,17 @@ module _ (f : ℕ) (s : List ℕ)
   unfolding after_put open_said kids_of say_read say_forest out_of judged_as
   opened-is v full = refl
   opened-is v (put x) =
-      ap (pick (eqb v.kids 0) (past v.next x)) (ih (below_node c v.self) v.next x)
+      ap (cond (eqb v.kids 0) (past v.next x)) (ih (below_node c v.self) v.next x)
       ∙ sym (pick-ap (λ (K : Read). say_read (below_node c v.self) K x) (eqb v.kids 0) (got v.next none)
       (read_list f s v.next))
 
   shut-is :
       (v : Whole) (acc : List InlineFrame) →
-      pick (eqb v.kids 0) (past v.next acc) (after_skip acc (skip_list f s (c.level + 1) v.next))
+      (if eqb v.kids 0 then past v.next acc else after_skip acc (skip_list f s (c.level + 1) v.next))
       ≡ after_skip acc (passed_of (c.level + 1) (kids_of v))
   unfolding kids_of passed_of after_skip deep_in
   shut-is v acc =
-      ap (λ (x : Result ℕ Fault). pick (eqb v.kids 0) (past v.next acc) (after_skip acc x))
+      ap (λ (x : Result ℕ Fault). if eqb v.kids 0 then past v.next acc else after_skip acc x)
       (skip_is f s (c.level + 1) v.next)
       ∙ sym (pick-ap (λ (K : Read). after_skip acc (passed_of (c.level + 1) K)) (eqb v.kids 0) (got v.next none)
       (read_list f s v.next))
@@ -244,8 +238,8 @@ module _ (f : ℕ) (s : List ℕ)
   node-is :
       (d a b w : Bool) (v : Whole) (acc : List InlineFrame) →
       after_seen (walk_list f s) (skip_list f s (c.level + 1)) c acc
-      (pick d (seen.Bad fault.Level) (pick a (seen.Bad fault.Sum) (pick b (seen.Bad fault.CallFile)
-      (seen.Node (judged_as w v)))))
+      (if d then seen.Bad fault.Level else if a then seen.Bad fault.Sum else if b then seen.Bad fault.CallFile
+      else seen.Node (judged_as w v))
       ≡ node_out d a b w c v.self (kids_of v) acc
   unfolding after_seen after_judged judged_as
   node-is true a b w v acc = too-deep c v.self a b w (kids_of v) acc

@@ -1,16 +1,7 @@
 -- One judged node from its head, and what is left of a list of judged nodes.
 -- Assumes nothing.
-use Rattle.std.proofs.Common.{Ok, Err, Some, None, Option, Result}
-use Prim.Native.Nat.{ℕ, zero, suc, ◌+◌, ◌-◌, ◌*◌, ◌<◌, ◌≤◌}
-use mathlib.Core.List.{List, [], ◌∷◌, ◌++◌, append-nil}
-use mathlib.Core.Bool.{Bool, true, false}
-use mathlib.Core.Path.{◌≡◌, sym, ap, subst, ◌∙◌}
-use lib.Dec.{eqb}
-use lib.ListN.{length, set, length-append}
-use native.Mathlib.Omega.{arith}
-use borrow.Author.Tests.{eq-eqb, ne_eqb, lt-ltb, le-ltb}
+use Rattle.std.proofs.Common.{Ok, Err, Some, None, Option, Result, ℕ, zero, suc, ◌+◌, ◌-◌, ◌*◌, ◌<◌, ◌≤◌, List, [], ◌∷◌, ◌++◌, append-nil, Bool, true, false, ◌≡◌, sym, ap, subst, ◌∙◌, eqb, length, set, length-append, arith, eq-eqb, ne_eqb, lt-ltb, le-ltb, if◌then◌else◌}
 use Rattle.types.specs.declared.InlineFrame.{InlineFrame}
-use Rattle.reads.specs.Pick.{pick}
 use Rattle.inline.specs.Judge.{seen_at}
 use Rattle.inline.specs.Skip.{skip_list, PassedGoes, SkippedAll}
 use Rattle.inline.specs.Store.{frame, frames_in}
@@ -126,10 +117,10 @@ module _ (s : List ℕ) (c : Ctx) (at : ℕ) (xs : List ℕ) (count : ℕ) (h : 
 
     shut-way : ℕ → Out
     shut-way f =
-        pick (eqb i.kids 0) (past i.next (frames_in count xs))
-        (after_skip (frames_in count xs) (skip_list f s (c.level + 1) i.next))
+        if eqb i.kids 0 then past i.next (frames_in count xs)
+        else after_skip (frames_in count xs) (skip_list f s (c.level + 1) i.next)
 
-    judged : (f : ℕ) → pick i.inside (open-way f) (shut-way f) ≡ walk_node f s c at (frames_in count xs)
+    judged : (f : ℕ) → (if i.inside then open-way f else shut-way f) ≡ walk_node f s c at (frames_in count xs)
     unfolding after_seen after_judged open-way shut-way
     judged f = ap (after_seen (walk_list f s) (skip_list f s (c.level + 1)) c (frames_in count xs)) (sym e) ∙ node-is f
 
@@ -140,7 +131,7 @@ module _ (s : List ℕ) (c : Ctx) (at : ℕ) (xs : List ℕ) (count : ℕ) (h : 
       unfolding open-way
       opened f p q =
           ap (after_put (walk_list f s (below c i.base)) i) q
-          ∙ ap (λ (b : Bool). pick b (open-way f) (shut-way f)) (sym o)
+          ∙ ap (λ (b : Bool). if b then open-way f else shut-way f) (sym o)
           ∙ judged f
 
       module _ (ys : List ℕ) (r : Option ℕ) (P : Pushed c (frame_in i) xs count ys r) where
@@ -165,8 +156,8 @@ module _ (s : List ℕ) (c : Ctx) (at : ℕ) (xs : List ℕ) (count : ℕ) (h : 
               record {
                 goes = (g.0, g.1, held-room);
                 says = λ f _.
-                    ap (λ (b : Bool). pick b (past i.next (frames_in n ys))
-                    (walk_list f s (below c i.base) i.next (frames_in n ys))) (sym (eq-eqb i.kids 0 z))
+                    ap (λ (b : Bool). if b then past i.next (frames_in n ys)
+                    else walk_list f s (below c i.base) i.next (frames_in n ys)) (sym (eq-eqb i.kids 0 z))
                     ∙ opened f (put (frames_in n ys)) roomed;
               }
 
@@ -180,14 +171,14 @@ module _ (s : List ℕ) (c : Ctx) (at : ℕ) (xs : List ℕ) (count : ℕ) (h : 
                 goes = goes-from at i.next (length s) c.room w (omega (arith, g.0)) W.goes;
                 says = λ f le.
                     W.says f (omega (arith, g.0, g.1))
-                    ∙ ap (λ (b : Bool). pick b (past i.next (frames_in n ys))
-                    (walk_list f s (below c i.base) i.next (frames_in n ys))) (sym (ne_eqb i.kids 0 z))
+                    ∙ ap (λ (b : Bool). if b then past i.next (frames_in n ys)
+                    else walk_list f s (below c i.base) i.next (frames_in n ys)) (sym (ne_eqb i.kids 0 z))
                     ∙ opened f (put (frames_in n ys)) roomed;
               }
 
     module _ (o : i.inside ≡ false) (le : count ≤ c.room) where
       closed : (f : ℕ) → shut-way f ≡ walk_node f s c at (frames_in count xs)
-      closed f = ap (λ (b : Bool). pick b (open-way f) (shut-way f)) (sym o) ∙ judged f
+      closed f = ap (λ (b : Bool). if b then open-way f else shut-way f) (sym o) ∙ judged f
 
       pub walked-shut-leaf : i.kids ≡ 0 → Walked s c at xs count xs (walk.Past i.next count)
       unfolding shut-way
@@ -196,8 +187,8 @@ module _ (s : List ℕ) (c : Ctx) (at : ℕ) (xs : List ℕ) (count : ℕ) (h : 
           record {
             goes = (g.0, g.1, le);
             says = λ f _.
-                ap (λ (b : Bool). pick b (past i.next (frames_in count xs))
-                (after_skip (frames_in count xs) (skip_list f s (c.level + 1) i.next))) (sym (eq-eqb i.kids 0 z))
+                ap (λ (b : Bool). if b then past i.next (frames_in count xs)
+                else after_skip (frames_in count xs) (skip_list f s (c.level + 1) i.next)) (sym (eq-eqb i.kids 0 z))
                 ∙ closed f;
           }
 
@@ -207,8 +198,8 @@ module _ (s : List ℕ) (c : Ctx) (at : ℕ) (xs : List ℕ) (count : ℕ) (h : 
         skips f lf =
             let g = seen_next s c at h H i e in
             ap (after_skip (frames_in count xs)) (K.says f (omega (arith, g.0, g.1)))
-            ∙ ap (λ (b : Bool). pick b (past i.next (frames_in count xs))
-            (after_skip (frames_in count xs) (skip_list f s (c.level + 1) i.next))) (sym (ne_eqb i.kids 0 z))
+            ∙ ap (λ (b : Bool). if b then past i.next (frames_in count xs)
+            else after_skip (frames_in count xs) (skip_list f s (c.level + 1) i.next)) (sym (ne_eqb i.kids 0 z))
             ∙ closed f
 
         pub walked-shut : (m : ℕ) → k ≡ Ok m → Walked s c at xs count xs (walk.Past m count)

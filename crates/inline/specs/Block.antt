@@ -1,4 +1,4 @@
--- What reading one block gives: its frames, or a refusal's number (document 01, "Inline tree" and "Refusal numbers").
+-- What reading one block gives: its frames, or a refusal's number (RULES, "Inline tree" and "Refusal numbers").
 -- Assumes nothing.
 use Rattle.std.specs.Prelude.{ℕ, ◌*◌, ◌/◌, min, List, [], ◌≡◌, length, take}
 use Rattle.types.specs.declared.InlineFrame.{InlineFrame}

@@ -1,4 +1,4 @@
--- The marked examples T9 to T12 of document 01, of the definition.
+-- The marked examples T9 to T12 of RULES, of the definition.
 -- Assumes nothing.
 use Rattle.std.specs.Prelude.{ℕ, List, [], ◌∷◌, ◌++◌, ◌≡◌, refl}
 use Rattle.reads.specs.Bytes.{le, le_in}

@@ -1,9 +1,8 @@
--- Document 01's conditions on a tree that is there in full, by recursion on it: no judged node has a sum above 2^64-1
+-- The conditions of RULES on a tree that is there in full, by recursion on it: no judged node has a sum above 2^64-1
 -- or a call file above the limit; and how many levels there are. Judged are the nodes of the top level and the children
 -- of open nodes; specs/Paths.antt says the same of paths.
 -- Assumes nothing.
-use Rattle.std.specs.Prelude.{ℕ, suc, ◌+◌, ◌≤◌, max, Bool, true, false, List, [], ◌∷◌, ◌≡◌, ltb}
-use Rattle.reads.specs.Pick.{pick}
+use Rattle.std.specs.Prelude.{ℕ, suc, ◌+◌, ◌≤◌, max, Bool, true, false, List, [], ◌∷◌, ◌≡◌, ltb, if◌then◌else◌}
 use Rattle.inline.specs.Tree.{Range, Forest, none, tree}
 use Rattle.inline.specs.Frames.{any_in, child_base}
 
@@ -16,12 +15,12 @@ most_file = 4294967295
 
 -- a range whose start or end is above the largest address
 unfoldable pub too_large : ℕ → Range → Bool
-too_large base r = pick (ltb most_address (base + r.off)) true (ltb most_address (base + r.off + r.size))
+too_large base r = if ltb most_address (base + r.off) then true else ltb most_address (base + r.off + r.size)
 
 -- some range is
 unfoldable pub any_large : ℕ → List Range → Bool
 any_large base [] = false
-any_large base (r ∷ rs) = pick (too_large base r) true (any_large base rs)
+any_large base (r ∷ rs) = if too_large base r then true else any_large base rs
 
 -- no judged node has a start or an end above the largest address, or a call file above the limit
 unfoldable pub Fits : ℕ → ℕ → Forest → Type 0

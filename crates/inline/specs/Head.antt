@@ -1,4 +1,4 @@
--- A node's head: what stands at a place, with no address and no level in it (document 01, "Inline tree").
+-- A node's head: what stands at a place, with no address and no level in it (RULES, "Inline tree").
 --
 --   range count   unsigned LEB128   0: no node, the list ends here
 --   per range     offset, size      unsigned LEB128 both
@@ -9,8 +9,26 @@
 --
 -- A head that doesn't read keeps what was read of it, and the cause: the bytes end, or a number is too wide.
 -- Assumes nothing.
-use Rattle.std.specs.Prelude.{Ok, Err, Some, None, Option, Result, ℕ, zero, suc, ◌+◌, min, List, [], ◌∷◌, ltb, eqb, length}
-use Rattle.reads.specs.Pick.{pick}
+use Rattle.std.specs.Prelude.{if◌then◌else◌}
+use Rattle.std.specs.Prelude.{
+  Ok,
+  Err,
+  Some,
+  None,
+  Option,
+  Result,
+  ℕ,
+  zero,
+  suc,
+  ◌+◌,
+  min,
+  List,
+  [],
+  ◌∷◌,
+  ltb,
+  eqb,
+  length,
+}
 use Rattle.reads.specs.Answers.{u8_at, u32_at}
 use Rattle.leb128.specs.Answers.{unsigned_at}
 use Rattle.inline.specs.Tree.{Range, Node}
@@ -110,7 +128,7 @@ with_ranges s first (all n rs) = with_tail first rs (tail_at s n)
 with_ranges s first (some c rs) = part c rs
 
 unfoldable pub with_count : List ℕ → Result (ℕ × ℕ) Cause → Raw
-with_count s (Ok (count, n)) = pick (eqb count 0) (end n) (with_ranges s n (ranges_at count s n))
+with_count s (Ok (count, n)) = if eqb count 0 then end n else with_ranges s n (ranges_at count s n)
 with_count s (Err c) = cut c
 
 unfoldable pub raw_at : List ℕ → ℕ → Raw
@@ -118,7 +136,7 @@ raw_at s at = with_count s (unsigned_at s at)
 
 -- a node on level 65 is refused once its range count is read and is not 0
 abbrev pub on_level : {A : Type 0} → ℕ → A → A → A
-on_level level deep other = pick (ltb 64 level) deep other
+on_level level deep other = if ltb 64 level then deep else other
 
 -- the head as a caller gets it, who judges no range and no call file
 abbrev pub whole_head : Whole → Head

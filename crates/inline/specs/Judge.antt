@@ -1,10 +1,9 @@
--- A head judged at an address: its first fault, or what the node comes to (document 01, "Inline tree").
+-- A head judged at an address: its first fault, or what the node comes to (RULES, "Inline tree").
 --
 -- Order inside a node: range count, level, then per range offset, size, start, end; children byte, name, call file, its
 -- limit, call line. So a head that breaks off is judged by the ranges and the call file that were read before it did.
 -- Assumes nothing.
-use Rattle.std.specs.Prelude.{Ok, Err, Result, ℕ, ◌+◌, List, Bool, ltb}
-use Rattle.reads.specs.Pick.{pick}
+use Rattle.std.specs.Prelude.{Ok, Err, Result, ℕ, ◌+◌, List, Bool, ltb, if◌then◌else◌}
 use Rattle.inline.specs.Tree.{Range}
 use Rattle.inline.specs.Frames.{in_range, any_in, first_off, child_base}
 use Rattle.inline.specs.Fits.{most_file, too_large, any_large}
@@ -39,11 +38,11 @@ use Rattle.inline.specs.declared.judge.Seen.TheVariants as seen
 abbrev pub ranges_fit : {A : Type 0} → (Fault → A) → Ctx → List Range → A → A
 ranges_fit bad c rs fits =
     on_level c.level (bad fault.Level)
-    (pick (any_large c.base rs) (bad fault.Sum) fits)
+    (if any_large c.base rs then bad fault.Sum else fits)
 
 -- 12: a call file above 4,294,967,295
 abbrev pub file_fits : {A : Type 0} → (Fault → A) → ℕ → A → A
-file_fits bad file fits = pick (ltb most_file file) (bad fault.CallFile) fits
+file_fits bad file fits = if ltb most_file file then bad fault.CallFile else fits
 
 -- a node without a fault: where its children's offsets count from, whether it contains the address, and what it says
 abbrev pub judged_of : Ctx → Whole → Judged
@@ -77,16 +76,16 @@ Span = Result (ℕ × ℕ × Bool) Fault
 -- one range
 unfoldable pub span_of : Ctx → One → Span
 span_of c (one r n) =
-    pick (too_large c.base r) (Err fault.Sum)
-    (Ok (n, c.base + r.off, in_range c.addr c.base r))
+    if too_large c.base r then Err fault.Sum
+    else Ok (n, c.base + r.off, in_range c.addr c.base r)
 span_of c (unread k) = Err (fault.Unread k)
 
 -- all ranges
 unfoldable pub spans_of : Ctx → Ranges → Span
 spans_of c (all n rs) =
-    pick (any_large c.base rs) (Err fault.Sum)
-    (Ok (n, c.base + first_off rs, any_in c.addr c.base rs))
-spans_of c (some k rs) = pick (any_large c.base rs) (Err fault.Sum) (Err (fault.Unread k))
+    if any_large c.base rs then Err fault.Sum
+    else Ok (n, c.base + first_off rs, any_in c.addr c.base rs)
+spans_of c (some k rs) = if any_large c.base rs then Err fault.Sum else Err (fault.Unread k)
 
 -- what follows the ranges, with the first range's start and whether the node contains the address
 unfoldable pub end_of : ℕ → Bool → Tail → Result Judged Fault

@@ -1,18 +1,17 @@
--- Demand 3 in its own words, by the paths that lead to nodes: "the call that reads one block lists exactly the nodes
--- with a name other than 0 that contain the address and whose ancestors all contain it, each once, parents before
--- children, siblings in file order, all below one sibling before the next." `ListsByPaths` is that sentence.
+-- Which frames a block has, by the paths that lead to nodes (RULES, "Inline tree"): exactly the open nodes whose name
+-- is not 0, each once, parents before children, siblings in file order, all below one sibling before the next.
+-- `ListsByPaths` is that sentence.
 --
 --   List.Memᴰ x xs   x is a member of the list xs          A ↔ B   each follows from the other
 --   some x, nowhere  there is one, namely x; there is none  A → ⊥   A is false
 --
 -- Sums are of natural numbers, so none wraps.
 -- Assumes nothing.
-use Rattle.std.specs.Prelude.{ℕ, zero, suc, ◌+◌, ◌≤◌, ◌<◌, ◌↔◌, ◌≡◌, eqb}
+use Rattle.std.specs.Prelude.{ℕ, zero, suc, ◌+◌, ◌≤◌, ◌<◌, ◌↔◌, ◌≡◌, eqb, if◌then◌else◌}
 use mathlib.Core.List.{List, [], ◌∷◌, ◌++◌, map, Memᴰ}
 use Rattle.std.proofs.Math.Option
 use Rattle.std.proofs.Math.Option.{Option, none as nowhere, some}
 use Rattle.types.specs.declared.InlineFrame.{InlineFrame}
-use Rattle.reads.specs.Pick.{pick}
 use Rattle.inline.specs.Tree.{Range, Node, Forest, none, tree}
 use Rattle.inline.specs.Frames.{any_in, child_base, frame_of}
 use Rattle.inline.specs.Fits.{most_address, most_file}
@@ -91,7 +90,7 @@ pub data Judged (addr base : ℕ) (forest : Forest) (p : NodePath) : Type 0 wher
   on-top : (i : ℕ) → p ≡ top i → Judged addr base forest p
   of-open : (q : NodePath) (k : ℕ) → p ≡ child q k → Open addr base forest q → Judged addr base forest p
 
--- ---- the demand
+-- ---- which nodes are listed, and in which order
 
 -- there is a node at the path, its name is not 0, and it is open
 pub record IsFrame (addr base : ℕ) (forest : Forest) (p : NodePath) : Type 0 where
@@ -119,7 +118,7 @@ pub record ListsByPaths (addr base : ℕ) (forest : Forest) (ps : List NodePath)
   pub exactly : (p : NodePath) → Memᴰ p ps ↔ IsFrame addr base forest p
   pub order : Rises ps
 
--- ---- the conditions on judged nodes and on levels (document 01, "Inline tree")
+-- ---- the conditions on judged nodes and on levels (RULES, "Inline tree")
 
 -- every range of the node starts and ends at most at the largest address, and its call file is at most the limit
 pub record NodeFits (base : ℕ) (n : Node) : Type 0 where
@@ -150,11 +149,11 @@ later (under i p) = under (suc i) p
 
 -- a first node's own path: none where its name is 0
 abbrev pub own_path : Node → List NodePath
-own_path n = pick (eqb n.name 0) [] (top 0 ∷ [])
+own_path n = if eqb n.name 0 then [] else top 0 ∷ []
 
 -- the paths of the frames, in the order of `frames`
 unfoldable pub frame_paths : ℕ → ℕ → Forest → List NodePath
 frame_paths addr base none = []
 frame_paths addr base (tree n kids rest) =
-    pick (any_in addr base n.ranges) (own_path n ++ map (under 0) (frame_paths addr (child_base base n) kids)) []
+    (if any_in addr base n.ranges then own_path n ++ map (under 0) (frame_paths addr (child_base base n) kids) else [])
     ++ map later (frame_paths addr base rest)

@@ -1,4 +1,4 @@
--- When a block reads at an address: document 01's conditions ("Inline tree"), a field for each.
+-- When a block reads at an address: the conditions of RULES ("Inline tree"), a field for each.
 -- Assumes nothing.
 use Rattle.std.specs.Prelude.{ℕ, ◌≤◌, List, true, false, ◌≡◌, length}
 use Rattle.inline.specs.Tree.{Node, Forest, none, tree}

@@ -1,8 +1,7 @@
--- What a tree says at an address: its frames, or its first fault in file order (document 01, "Inline tree").
+-- What a tree says at an address: its frames, or its first fault in file order (RULES, "Inline tree").
 -- Assumes nothing.
-use Rattle.std.specs.Prelude.{ℕ, ◌+◌, List, Bool, true, false}
+use Rattle.std.specs.Prelude.{ℕ, ◌+◌, List, Bool, true, false, if◌then◌else◌}
 use Rattle.types.specs.declared.InlineFrame.{InlineFrame}
-use Rattle.reads.specs.Pick.{pick}
 use Rattle.inline.specs.Tree.{Node, Forest, none, tree}
 use Rattle.inline.specs.Frames.{any_in, child_base, frame_of}
 use Rattle.inline.specs.Head.{on_level}
@@ -20,7 +19,7 @@ pub data Said : Type 0 where
 -- nodes that are passed over and are all there: whether one of them, or one below them, stands on level 65
 unfoldable pub deep_in : ℕ → Forest → Bool
 deep_in level none = false
-deep_in level (tree self kids rest) = on_level level true (pick (deep_in (level + 1) kids) true (deep_in level rest))
+deep_in level (tree self kids rest) = on_level level true (if deep_in (level + 1) kids then true else deep_in level rest)
 
 -- nodes that are passed over and break off: their first fault
 unfoldable pub fault_of : ℕ → Torn → Fault
@@ -29,7 +28,7 @@ fault_of level (half k rs) = on_level level fault.Level (fault.Unread k)
 fault_of level (most k rs file) = on_level level fault.Level (fault.Unread k)
 fault_of level (inside self kids) = on_level level fault.Level (fault_of (level + 1) kids)
 fault_of level (after self kids rest) =
-    on_level level fault.Level (pick (deep_in (level + 1) kids) fault.Level (fault_of level rest))
+    on_level level fault.Level (if deep_in (level + 1) kids then fault.Level else fault_of level rest)
 
 -- what comes after the frames so far, unless there was a fault
 unfoldable pub and_then : (List InlineFrame → Said) → Said → Said
@@ -49,7 +48,7 @@ abbrev pub judged_node : {A : Type 0} → (Fault → A) → Ctx → Node → A �
 judged_node told c self opened shut =
     ranges_fit told c self.ranges
     (file_fits told self.file
-    (pick (any_in c.addr c.base self.ranges) opened shut))
+    (if any_in c.addr c.base self.ranges then opened else shut))
 
 -- the context of a node's children
 abbrev pub below_node : Ctx → Node → Ctx
@@ -62,7 +61,7 @@ say_forest c (tree self kids rest) acc =
     and_then (say_forest c rest)
     (judged_node wrong c self
     (and_then (say_forest (below_node c self) kids) (said_put (put_frame c (frame_of self) acc)))
-    (pick (deep_in (c.level + 1) kids) (wrong fault.Level) (fine acc)))
+    (if deep_in (c.level + 1) kids then wrong fault.Level else fine acc))
 
 -- judged nodes that break off: there is always a fault
 unfoldable pub say_torn : Ctx → Torn → List InlineFrame → Fault
@@ -77,7 +76,7 @@ say_torn c (after self kids rest) acc =
     or_else (say_torn c rest)
     (judged_node wrong c self
     (and_then (say_forest (below_node c self) kids) (said_put (put_frame c (frame_of self) acc)))
-    (pick (deep_in (c.level + 1) kids) (wrong fault.Level) (fine acc)))
+    (if deep_in (c.level + 1) kids then wrong fault.Level else fine acc))
 
 -- a list of judged nodes
 unfoldable pub out_of : ℕ → Said → Out

@@ -1,10 +1,9 @@
--- Nodes that are passed over with all their descendants: only 10 and 13 apply to them (document 01, "Inline tree").
+-- Nodes that are passed over with all their descendants: only 10 and 13 apply to them (RULES, "Inline tree").
 --
 -- Fuel stands for the bytes left: each node takes at least one. With more fuel than bytes left none is ever wanting.
 -- Assumes nothing.
 use Rattle.inline.specs.declared.head.Fault.{Fault}
-use Rattle.std.specs.Prelude.{Ok, Err, Result, ℕ, zero, suc, ◌+◌, ◌-◌, ◌≤◌, ◌<◌, List, ◌≡◌, eqb, length}
-use Rattle.reads.specs.Pick.{pick}
+use Rattle.std.specs.Prelude.{Ok, Err, Result, ℕ, zero, suc, ◌+◌, ◌-◌, ◌≤◌, ◌<◌, List, ◌≡◌, eqb, length, if◌then◌else◌}
 use Rattle.inline.specs.Head.{head_at}
 use Rattle.leb128.specs.declared.Cause.TheVariants as cause
 use Rattle.inline.specs.declared.head.Fault.TheVariants as fault
@@ -22,7 +21,7 @@ over_kids (Err f) = step.Bad f
 unfoldable pub after_head : (ℕ → Result ℕ Fault) → Head → Step
 after_head kids (head.End n) = step.End n
 after_head kids (head.Bad f) = step.Bad f
-after_head kids (head.Node h) = pick (eqb h.kids 0) (step.Past h.next) (over_kids (kids h.next))
+after_head kids (head.Node h) = if eqb h.kids 0 then step.Past h.next else over_kids (kids h.next)
 
 -- after one node the list goes on; its end ends it
 unfoldable pub then_skip : (ℕ → Result ℕ Fault) → Step → Result ℕ Fault

@@ -1,4 +1,4 @@
--- What follows a node's ranges, as far as it reads (document 01, "Inline tree").
+-- What follows a node's ranges, as far as it reads (RULES, "Inline tree").
 -- Assumes nothing.
 use Rattle.std.specs.Prelude.{ℕ}
 use Rattle.leb128.specs.declared.Cause.{Cause}

@@ -1,10 +1,9 @@
 -- The tree that a block's bytes hold, or as much of it as is there: syntax only, no address and no level in it
--- (document 01, "Inline tree").
+-- (RULES, "Inline tree").
 --
 -- Fuel stands for the bytes left: each node takes at least one.
 -- Assumes nothing.
-use Rattle.std.specs.Prelude.{ℕ, zero, suc, List, eqb, length}
-use Rattle.reads.specs.Pick.{pick}
+use Rattle.std.specs.Prelude.{ℕ, zero, suc, List, eqb, length, if◌then◌else◌}
 use Rattle.inline.specs.Tree.{Range, Node, Forest, none, tree}
 use Rattle.inline.specs.Head.{Raw, end, cut, part, late, node, raw_at}
 use Rattle.leb128.specs.declared.Cause.{Cause}
@@ -39,7 +38,7 @@ read_raw kids go (cut k) = torn (stop k)
 read_raw kids go (part k rs) = torn (half k rs)
 read_raw kids go (late k rs file) = torn (most k rs file)
 read_raw kids go (node w) =
-    with_list go w.self (pick (eqb w.kids 0) (got w.next none) (kids w.next))
+    with_list go w.self (if eqb w.kids 0 then got w.next none else kids w.next)
 
 -- the nodes from a place on, up to a range count of 0
 unfoldable pub read_list : ℕ → List ℕ → ℕ → Read

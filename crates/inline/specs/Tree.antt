@@ -1,4 +1,4 @@
--- The tree that a block holds: syntax only, no address in it (document 01, "Inline tree").
+-- The tree that a block holds: syntax only, no address in it (RULES, "Inline tree").
 --
 --   range    offset and size, as they stand in the file
 --   node     ranges, name, call file, call line (at most 4,294,967,295), and its children in file order

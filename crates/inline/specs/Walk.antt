@@ -1,11 +1,33 @@
--- Reading judged nodes in one pass: the frames so far go along, and the first fault ends it (document 01, "Inline
+-- Reading judged nodes in one pass: the frames so far go along, and the first fault ends it (RULES, "Inline
 -- tree"). Judged are the root and the children of open nodes; below a closed node all is passed over.
 --
 -- Fuel stands for the bytes left, as in passing over.
 -- Assumes nothing.
-use Rattle.std.specs.Prelude.{Ok, Err, Some, None, Option, Result, ℕ, zero, suc, ◌+◌, ◌-◌, ◌≤◌, ◌<◌, List, [], ◌∷◌, ◌++◌, ◌≡◌, ltb, eqb, length}
+use Rattle.std.specs.Prelude.{if◌then◌else◌}
+use Rattle.std.specs.Prelude.{
+  Ok,
+  Err,
+  Some,
+  None,
+  Option,
+  Result,
+  ℕ,
+  zero,
+  suc,
+  ◌+◌,
+  ◌-◌,
+  ◌≤◌,
+  ◌<◌,
+  List,
+  [],
+  ◌∷◌,
+  ◌++◌,
+  ◌≡◌,
+  ltb,
+  eqb,
+  length,
+}
 use Rattle.types.specs.declared.InlineFrame.{InlineFrame}
-use Rattle.reads.specs.Pick.{pick}
 use Rattle.inline.specs.Judge.{seen_at}
 use Rattle.inline.specs.Skip.{skip_list}
 use Rattle.inline.specs.Store.{frame, frames_in}
@@ -32,11 +54,11 @@ pub data Put : Type 0 where
 
 -- a frame counts where its name is not 0
 abbrev pub counted : InlineFrame → List InlineFrame
-counted f = pick (eqb f.name.0 0) [] (f ∷ [])
+counted f = if eqb f.name.0 0 then [] else f ∷ []
 
 -- 14: more frames than room
 unfoldable pub put_frame : Ctx → InlineFrame → List InlineFrame → Put
-put_frame c f acc = pick (ltb c.room (length (acc ++ counted f))) full (put (acc ++ counted f))
+put_frame c f acc = if ltb c.room (length (acc ++ counted f)) then full else put (acc ++ counted f)
 
 -- the frame of a judged node
 abbrev pub frame_in : Judged → InlineFrame
@@ -49,7 +71,7 @@ below c base = record { level = c.level + 1; addr = c.addr; base = base; room = 
 -- an open node: its frame, and then its children
 unfoldable pub after_put : (ℕ → List InlineFrame → Out) → Judged → Put → Out
 after_put kids i full = bad fault.Room
-after_put kids i (put acc) = pick (eqb i.kids 0) (past i.next acc) (kids i.next acc)
+after_put kids i (put acc) = if eqb i.kids 0 then past i.next acc else kids i.next acc
 
 -- a closed node: its children are passed over
 unfoldable pub after_skip : List InlineFrame → Result ℕ Fault → Out
@@ -60,11 +82,12 @@ after_skip acc (Err f) = bad f
 unfoldable pub after_judged :
     (Ctx → ℕ → List InlineFrame → Out) → (ℕ → Result ℕ Fault) → Ctx → List InlineFrame → Judged → Out
 after_judged reads skips c acc i =
-    pick i.inside
-    (after_put (reads (below c i.base)) i (put_frame c (frame_in i) acc))
-    (pick (eqb i.kids 0) (past i.next acc) (after_skip acc (skips i.next)))
+    if i.inside
+    then after_put (reads (below c i.base)) i (put_frame c (frame_in i) acc)
+    else if eqb i.kids 0 then past i.next acc else after_skip acc (skips i.next)
 
-unfoldable pub after_seen : (Ctx → ℕ → List InlineFrame → Out) → (ℕ → Result ℕ Fault) → Ctx → List InlineFrame → Seen → Out
+unfoldable pub after_seen :
+    (Ctx → ℕ → List InlineFrame → Out) → (ℕ → Result ℕ Fault) → Ctx → List InlineFrame → Seen → Out
 after_seen reads skips c acc (seen.End n) = ended n acc
 after_seen reads skips c acc (seen.Bad f) = bad f
 after_seen reads skips c acc (seen.Node i) = after_judged reads skips c acc i

@@ -1,4 +1,4 @@
-// A node's head, read with no address in mind: what it says and where its parts stand (document 01, "Inline tree").
+// A node's head, read with no address in mind: what it says and where its parts stand (RULES, "Inline tree").
 // Judging it at an address is left to `judge`.
 ghost use Rattle.std.specs.Prelude.{◌≡◌, ◌≤◌, min, length};
 ghost use Rattle.inline.specs.declared.head.Fault.TheVariants.{Unread};
@@ -102,7 +102,7 @@ fn node_head(s: &[u8], level: usize, ranges: u64, first: usize) -> Result<NodeHe
 }
 
 // The head of the node at `at`, whose level the caller counts from 1 for the root: a whole head, the list's end, or the
-// first fault of 10 and 13 (document 01, "Inline tree").
+// first fault of 10 and 13 (RULES, "Inline tree").
 pub fn head_at(s: &[u8], level: usize, at: usize) -> Head
     ensures { result ≡ head_at s.now level at }
 {

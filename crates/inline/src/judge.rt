@@ -1,7 +1,6 @@
-// A node's head judged at an address: the first fault of 10 to 13, or what the node comes to (document 01, "Inline
+// A node's head judged at an address: the first fault of 10 to 13, or what the node comes to (RULES, "Inline
 // tree"). Frames and children are left to `walk`.
-ghost use Rattle.std.specs.Prelude.{◌≡◌, true, false, ◌≤◌, leb, ltb, length};
-ghost use Rattle.reads.specs.Pick.{pick};
+ghost use Rattle.std.specs.Prelude.{◌≡◌, true, false, ◌≤◌, leb, ltb, length, if◌then◌else◌};
 ghost use Rattle.inline.specs.Head.{range_at, ranges_at, tail_at};
 ghost use Rattle.inline.specs.Judge.{span_of, spans_of, end_of, node_of, seen_at};
 
@@ -44,7 +43,7 @@ pub(crate) enum Seen {
 
 // The end is not contained.
 fn contains(start: u64, end: u64, addr: u64) -> bool
-    ensures { result ≡ pick (leb start addr) (ltb addr end) false }
+    ensures { result ≡ (if leb start addr then ltb addr end else false) }
 {
     start <= addr && addr < end
 }

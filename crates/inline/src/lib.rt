@@ -1,4 +1,4 @@
-// The inline tree of one block (document 01, "Inline tree"): which calls were inlined at an address.
+// The inline tree of one block (RULES, "Inline tree"): which calls were inlined at an address.
 //   head      a node's head, with no address in mind
 //   judge     a head judged at an address
 //   skipping  nodes passed over

@@ -1,4 +1,4 @@
-// Nodes passed over with all below them, as those below a closed node are (document 01, "Inline tree").
+// Nodes passed over with all below them, as those below a closed node are (RULES, "Inline tree").
 ghost use Rattle.inline.specs.Skip.{Skipped, SkippedAll};
 
 use super::head::{Fault, Head, head_at};

@@ -1,5 +1,5 @@
 // The judging walk: a node reader and a child-list reader that call each other, with fewer bytes left each time round
-// (document 01, "Inline tree"). Frames go to the front of a lent list of numbers.
+// (RULES, "Inline tree"). Frames go to the front of a lent list of numbers.
 ghost use Rattle.std.specs.Prelude.{◌*◌, ◌≤◌, length};
 ghost use Rattle.inline.specs.Walk.{frame_in, Pushed, Walked, WalkedAll};
 

@@ -20,7 +20,7 @@ pub fn to_bits(x: i64) -> u64
     x.cast_unsigned()
 }
 
-// x + y as a signed 64-bit number: 2^63 wraps to -2^63 (01, line table).
+// x + y as a signed 64-bit number: 2^63 wraps to -2^63 (RULES, "Line table").
 pub fn wrapping_add(x: i64, y: i64) -> i64
     ensures { result ≡ wrap (x +ℤ y) }
 {
@@ -34,8 +34,8 @@ pub fn wrapping_sub(x: i64, y: i64) -> i64
     x.wrapping_sub(y)
 }
 
-// a divided by d, rounded toward zero, so that a negative d gives a negative quotient or 0 (01, line
-// table). At d = 0, where the line machine stops before it divides, the answer is 0.
+// a divided by d, rounded toward zero, so that a negative d gives a negative quotient or 0 (RULES, "Line
+// table"). At d = 0, where the line machine stops before it divides, the answer is 0.
 pub fn quot(a: u8, d: i64) -> i64
     ensures { result ≡ int_div (pos a) d }
 {
@@ -47,7 +47,7 @@ pub fn quot(a: u8, d: i64) -> i64
 }
 
 // What that division leaves of a. It has the sign of a, so it is never negative, whatever d's sign
-// is (01, line table). At d = 0 all of a is left.
+// is (RULES, "Line table"). At d = 0 all of a is left.
 pub fn rem(a: u8, d: i64) -> i64
     ensures { result ≡ int_rem (pos a) d }
 {
@@ -58,14 +58,14 @@ pub fn rem(a: u8, d: i64) -> i64
     x % d
 }
 
-// x + d modulo 2^64, as addresses wrap (01, line table). A negative d moves back.
+// x + d modulo 2^64, as addresses wrap (RULES, "Line table"). A negative d moves back.
 pub fn add_to_u64(x: u64, d: i64) -> u64
     ensures { result ≡ mod_z (pos x +ℤ d) (2 ^ 64) }
 {
     x.wrapping_add_signed(d)
 }
 
-// x + d modulo 2^32, as lines wrap (01, line table). Of d only the low 32 bits count.
+// x + d modulo 2^32, as lines wrap (RULES, "Line table"). Of d only the low 32 bits count.
 pub fn add_to_u32(x: u32, d: i64) -> u32
     ensures { result ≡ mod_z (pos x +ℤ d) (2 ^ 32) }
 {

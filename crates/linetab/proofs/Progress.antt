@@ -1,7 +1,6 @@
 -- Reading goes on, and stays within the bytes: an opcode's, and the header's.
 -- Assumes nothing.
-use Rattle.std.proofs.Common.{◌≡◌, ℕ, zero, suc, ◌+◌, ◌<◌, ◌≤◌, Bool, true, false, eqb, List, length, get_or, ℤ, pos, negsuc, refl, ap, subst, ⊎_elim, arith, le-ltb, lt-ltb, Ok, Err, Result}
-use Rattle.reads.specs.Pick.{pick}
+use Rattle.std.proofs.Common.{◌≡◌, ℕ, zero, suc, ◌+◌, ◌<◌, ◌≤◌, Bool, true, false, eqb, List, length, get_or, ℤ, pos, negsuc, refl, ap, subst, ⊎_elim, arith, le-ltb, lt-ltb, Ok, Err, Result, if◌then◌else◌}
 use Rattle.std.proofs.lemmas.Bool.{cases_lt}
 use Rattle.leb128.specs.Answers.{unsigned_at, signed_at}
 use Rattle.leb128.specs.declared.Cause.{Cause}
@@ -47,7 +46,7 @@ Ahead at len UsedUp = len ≤ at
 -- ---- opcodes
 
 module _ (at len : ℕ) (l : at < len) where
-  pick-ahead : (b : Bool) (x y : RunResult) → Ahead at len x → Ahead at len y → Ahead at len (pick b x y)
+  pick-ahead : (b : Bool) (x y : RunResult) → Ahead at len x → Ahead at len y → Ahead at len (if b then x else y)
   pick-ahead true x y p q = p
   pick-ahead false x y p q = q
 

@@ -1,8 +1,7 @@
 -- The quick form of the run: what its steps say of the run follows from the opcodes of `step_of`.
 -- Assumes nothing.
-use Rattle.std.proofs.Common.{◌≡◌, ℕ, ◌+◌, ◌-◌, ◌*◌, ◌/◌, ◌%◌, ◌^◌, ◌<◌, ◌≤◌, Bool, List, length, get_or, ℤ, pos, negsuc, ◌+ℤ◌, sym, ap, ◌∙◌, arith, le-ltb, lt-ltb, Some, None, Option}
+use Rattle.std.proofs.Common.{◌≡◌, ℕ, ◌+◌, ◌-◌, ◌*◌, ◌/◌, ◌%◌, ◌^◌, ◌<◌, ◌≤◌, Bool, List, length, get_or, ℤ, pos, negsuc, ◌+ℤ◌, sym, ap, ◌∙◌, arith, le-ltb, lt-ltb, Some, None, Option, if◌then◌else◌}
 use lib.Signed.{mag}
-use Rattle.reads.specs.Pick.{pick}
 use Rattle.int64.specs.Wrap.{number_of, bits_of, mod_z, wrap}
 use Rattle.int64.proofs.Bits.{number-of-bits}
 use Rattle.int64.proofs.Wraps.{mod_z-lt, mod_z-add, mod_z-32, mod_z-bits, mod_z-32-add-wrap}
@@ -133,10 +132,10 @@ suited h fM range p fR eR eD some few eF eL =
 
 module _ (start : ℕ) (t : LineState) where
   pub before-some : start < t.at → Some t.row ≡ row_before start t
-  before-some l = ap (λ y. pick y (Some t.row) None) (sym (lt-ltb start t.at l))
+  before-some l = ap (λ y. if y then Some t.row else None) (sym (lt-ltb start t.at l))
 
   pub before-none : t.at ≤ start → None ≡ row_before start t
-  before-none l = ap (λ y. pick y (Some t.row) None) (sym (le-ltb start t.at l))
+  before-none l = ap (λ y. if y then Some t.row else None) (sym (le-ltb start t.at l))
 
 -- the answer from the start is the one from t on
 abbrev pub Here : LineTableHeader → List ℕ → Address → LineState → LineState → Type 0
@@ -156,7 +155,7 @@ module _ (h : LineTableHeader) (ops : List ℕ) (addr : Address) (start : LineSt
 
     module _ (q : LineState) (k : Leads h ops t (Some q)) where
       abbrev chosen : Bool → Option LineTableRow
-      chosen y = pick y (row_before start.at t) (row_from h ops addr (Some q.row) q)
+      chosen y = if y then row_before start.at t else row_from h ops addr (Some q.row) q
 
       pub row-above :
           (r : Option LineTableRow) → r ≡ row_before start.at t → addr.0 < q.row.addr.0 →

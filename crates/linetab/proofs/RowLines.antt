@@ -1,8 +1,7 @@
 -- The line of a row is below 2^32: the machine keeps it modulo that.
 -- Assumes nothing.
-use Rattle.std.proofs.Common.{ℕ, zero, suc, ◌-◌, ◌^◌, ◌<◌, Bool, true, false, eqb, ltb, List, length, get_or, ℤ, pos, negsuc, ◌+ℤ◌, arith, Some, None, Option, Ok, Err, Result}
+use Rattle.std.proofs.Common.{ℕ, zero, suc, ◌-◌, ◌^◌, ◌<◌, Bool, true, false, eqb, ltb, List, length, get_or, ℤ, pos, negsuc, ◌+ℤ◌, arith, Some, None, Option, Ok, Err, Result, if◌then◌else◌}
 use lib.Signed.{rem_z}
-use Rattle.reads.specs.Pick.{pick}
 use Rattle.int64.specs.Wrap.{wrap}
 use Rattle.int64.proofs.Wraps.{mod_z-lt}
 use Rattle.types.specs.declared.Address.{Address}
@@ -45,7 +44,7 @@ HeaderSmall (Ok (h, n)) = h.first_line.0 < 2 ^ 32
 HeaderSmall (Err c) = Unit {0}
 
 -- what holds of both ways holds of a choice
-picked : {A : Type 0} (P : A → Type 0) (t : Bool) (x y : A) → P x → P y → P (pick t x y)
+picked : {A : Type 0} (P : A → Type 0) (t : Bool) (x y : A) → P x → P y → P (if t then x else y)
 picked P true x y p q = p
 picked P false x y p q = q
 

@@ -1,8 +1,7 @@
 -- A run, one opcode at a time. Each opcode takes a byte, so the equations need no count of them.
 -- Assumes nothing.
-use Rattle.std.proofs.Common.{◌≡◌, ℕ, zero, suc, ◌-◌, ◌<◌, ◌≤◌, ltb, List, length, refl, ap, ◌∙◌, arith, le-ltb, lt-ltb, Some, None, Option}
+use Rattle.std.proofs.Common.{◌≡◌, ℕ, zero, suc, ◌-◌, ◌<◌, ◌≤◌, ltb, List, length, refl, ap, ◌∙◌, arith, le-ltb, lt-ltb, Some, None, Option, if◌then◌else◌, cond}
 use Rattle.types.specs.declared.Address.{Address}
-use Rattle.reads.specs.Pick.{pick}
 use Rattle.linetab.specs.declared.LineTableHeader.{LineTableHeader}
 use Rattle.linetab.specs.declared.LineTableRow.{LineTableRow}
 use Rattle.linetab.specs.declared.LineState.{LineState}
@@ -29,7 +28,7 @@ module _ (h : LineTableHeader) (ops : List ℕ) (addr : Address) where
       (b : Option LineTableRow) (x : RunResult) → Ahead t.at (length ops) x →
       after f addr b t.row x ≡ after g addr b t.row x
   agree f g t s b (run.Ok q) a = s b q a.0 a.1
-  agree f g t s b (NewRow q) a = ap (pick (ltb addr.0 q.row.addr.0) b) (s (Some q.row) q a.0 a.1)
+  agree f g t s b (NewRow q) a = ap (cond (ltb addr.0 q.row.addr.0) b) (s (Some q.row) q a.0 a.1)
   agree f g t s b (End n) a = refl
   agree f g t s b Stopped a = refl
   agree f g t s b UsedUp a = refl
@@ -77,17 +76,17 @@ module _ (h : LineTableHeader) (ops : List ℕ) (addr : Address) where
 
     pub on-made :
         (q : LineState) → step_of h ops t ≡ NewRow q →
-        row_from h ops addr b t ≡ pick (ltb addr.0 q.row.addr.0) b (row_from h ops addr (Some q.row) q)
+        row_from h ops addr b t ≡ (if ltb addr.0 q.row.addr.0 then b else row_from h ops addr (Some q.row) q)
     on-made q e = by (NewRow q) e
 
     pub on-row :
         (q : LineState) → step_of h ops t ≡ NewRow q → q.row.addr.0 ≤ addr.0 →
         row_from h ops addr b t ≡ row_from h ops addr (Some q.row) q
-    on-row q e l = on-made q e ∙ ap (λ x. pick x b (row_from h ops addr (Some q.row) q)) (le-ltb _ _ l)
+    on-row q e l = on-made q e ∙ ap (λ x. if x then b else row_from h ops addr (Some q.row) q) (le-ltb _ _ l)
 
     pub on-past :
         (q : LineState) → step_of h ops t ≡ NewRow q → addr.0 < q.row.addr.0 → row_from h ops addr b t ≡ b
-    on-past q e l = on-made q e ∙ ap (λ x. pick x b (row_from h ops addr (Some q.row) q)) (lt-ltb _ _ l)
+    on-past q e l = on-made q e ∙ ap (λ x. if x then b else row_from h ops addr (Some q.row) q) (lt-ltb _ _ l)
 
     pub on-end : (x : RunResult) → step_of h ops t ≡ x → Ends x → row_from h ops addr b t ≡ at_end b t.row
     on-end (run.Ok q) e z = absurd z

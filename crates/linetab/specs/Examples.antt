@@ -1,4 +1,4 @@
--- The marked examples T6 to T8 of document 01, of the definitions.
+-- The marked examples T6 to T8 of RULES, of the definitions.
 -- Assumes nothing.
 use Rattle.std.specs.Prelude.{◌≡◌, [], ◌∷◌, ℤ, pos, neg_ℤ, refl}
 use Rattle.int64.specs.Wrap.{wrap}

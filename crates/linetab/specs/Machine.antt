@@ -1,4 +1,4 @@
--- The GSYM line table's header, and one opcode of its program (document 01, "Line table").
+-- The GSYM line table's header, and one opcode of its program (RULES, "Line table").
 --
 --   header    min, max              signed LEB128     the least and the greatest line change of a special opcode
 --             first line            unsigned LEB128   modulo 2^32
@@ -9,9 +9,8 @@
 --             4 to 255                                the address and the line change, and a row is made
 --
 -- Assumes nothing.
-use Rattle.std.specs.Prelude.{ℕ, zero, suc, ◌+◌, ◌-◌, ◌%◌, ◌^◌, List, length, ℤ, pos, negsuc, ◌+ℤ◌, ◌-ℤ◌, ◌==◌, int_div, int_rem, nat_lt, slice_index, Ok, Err, Result}
+use Rattle.std.specs.Prelude.{ℕ, zero, suc, ◌+◌, ◌-◌, ◌%◌, ◌^◌, List, length, ℤ, pos, negsuc, ◌+ℤ◌, ◌-ℤ◌, ◌==◌, int_div, int_rem, nat_lt, slice_index, Ok, Err, Result, if◌then◌else◌}
 use Rattle.types.specs.declared.Address.{Address}
-use Rattle.reads.specs.Pick.{pick}
 use Rattle.int64.specs.Wrap.{mod_z, wrap}
 use Rattle.leb128.specs.Answers.{unsigned_at, signed_at}
 use Rattle.leb128.specs.declared.Cause.{Cause}
@@ -94,11 +93,11 @@ special_of h r a n = unless_zero (range_of h) (NewRow (moved h r a (range_of h) 
 -- opcode b, behind which the place is n
 unfoldable pub opcode : LineTableHeader → List ℕ → LineTableRow → ℕ → ℕ → RunResult
 opcode h ops r b n =
-    pick (b == 0) (End n)
-    (pick (b == 1) (set_file r (unsigned_at ops n))
-    (pick (b == 2) (advance_pc r (unsigned_at ops n))
-    (pick (b == 3) (advance_line r (signed_at ops n)) (special_of h r (b - 4) n))))
+    if b == 0 then End n
+    else if b == 1 then set_file r (unsigned_at ops n)
+    else if b == 2 then advance_pc r (unsigned_at ops n)
+    else if b == 3 then advance_line r (signed_at ops n) else special_of h r (b - 4) n
 
 -- the opcode at a state's place, if there is a byte
 unfoldable pub step_of : LineTableHeader → List ℕ → LineState → RunResult
-step_of h ops t = pick (nat_lt t.at (length ops)) (opcode h ops t.row (slice_index ops t.at) (t.at + 1)) UsedUp
+step_of h ops t = if nat_lt t.at (length ops) then opcode h ops t.row (slice_index ops t.at) (t.at + 1) else UsedUp

@@ -1,8 +1,7 @@
 -- What the quick form of the run goes by: which headers its plan suits, what its steps say of the run from a state on.
 -- Assumes nothing.
-use Rattle.std.specs.Prelude.{◌≡◌, ℕ, ◌+◌, ◌/◌, ◌^◌, ◌<◌, ◌≤◌, List, length, pos, nat_lt, Some, None, Option}
+use Rattle.std.specs.Prelude.{◌≡◌, ℕ, ◌+◌, ◌/◌, ◌^◌, ◌<◌, ◌≤◌, List, length, pos, nat_lt, Some, None, Option, if◌then◌else◌}
 use Rattle.types.specs.declared.Address.{Address}
-use Rattle.reads.specs.Pick.{pick}
 use Rattle.int64.specs.Wrap.{mod_z}
 use Rattle.linetab.specs.declared.LineTableHeader.{LineTableHeader}
 use Rattle.linetab.specs.declared.LineTableRow.{LineTableRow}
@@ -21,7 +20,7 @@ pub record Suits (h : LineTableHeader) (p : Plan) : Type 0 where
 
 -- the last row made, where that is the state t: none at the place where the program starts
 abbrev pub row_before : ℕ → LineState → Option LineTableRow
-row_before start t = pick (nat_lt start t.at) (Some t.row) None
+row_before start t = if nat_lt start t.at then Some t.row else None
 
 -- no row is made from t to q: whatever is asked for, and whatever the last row was, the answer is the same
 abbrev pub Keeps : List ℕ → LineState → LineState → Type 0
@@ -42,5 +41,5 @@ Leads h ops t (Some q) =
     (t.at < q.at)
     × (q.at ≤ length ops)
     × ((addr : Address) (b : Option LineTableRow) →
-    row_from h ops addr b t ≡ pick (nat_lt addr.0 q.row.addr.0) b (row_from h ops addr (Some q.row) q))
+    row_from h ops addr b t ≡ (if nat_lt addr.0 q.row.addr.0 then b else row_from h ops addr (Some q.row) q))
 Leads h ops t None = Unit {0}

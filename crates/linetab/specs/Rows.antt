@@ -1,9 +1,8 @@
--- The row of an address in a line program (document 01, "Line table"): the program runs until a row lies above the
+-- The row of an address in a line program (RULES, "Line table"): the program runs until a row lies above the
 -- address, and the row before that one is the answer.
 -- Assumes nothing.
-use Rattle.std.specs.Prelude.{ℕ, zero, suc, ◌-◌, List, length, nat_lt, Some, None, Option, Ok, Err, Result}
+use Rattle.std.specs.Prelude.{ℕ, zero, suc, ◌-◌, List, length, nat_lt, Some, None, Option, Ok, Err, Result, if◌then◌else◌}
 use Rattle.types.specs.declared.Address.{Address}
-use Rattle.reads.specs.Pick.{pick}
 use Rattle.leb128.specs.declared.Cause.{Cause}
 use Rattle.linetab.specs.declared.LineTableHeader.{LineTableHeader}
 use Rattle.linetab.specs.declared.LineTableRow.{LineTableRow}
@@ -23,7 +22,7 @@ abbrev pub after :
     (Option LineTableRow → LineState → Option LineTableRow) → Address → Option LineTableRow → LineTableRow →
     RunResult → Option LineTableRow
 after go addr before r (run.Ok t) = go before t
-after go addr before r (NewRow t) = pick (nat_lt addr.0 t.row.addr.0) before (go (Some t.row) t)
+after go addr before r (NewRow t) = if nat_lt addr.0 t.row.addr.0 then before else go (Some t.row) t
 after go addr before r (End n) = at_end before r
 after go addr before r Stopped = at_end before r
 after go addr before r UsedUp = at_end before r

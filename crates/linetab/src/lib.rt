@@ -1,4 +1,4 @@
-// The GSYM line table: its header, its machine one opcode at a time, and the row of an address (document 01, "Line
+// The GSYM line table: its header, its machine one opcode at a time, and the row of an address (RULES, "Line
 // table"). A header that doesn't read is told with its cause; the refusal number is left to the caller.
 //   opcode   what each opcode does to a row
 //   quick    the row of an address at the usual ranges

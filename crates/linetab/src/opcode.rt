@@ -1,4 +1,4 @@
-// What each opcode does to a row (document 01, "Line table"). An operand that doesn't read stops the program.
+// What each opcode does to a row (RULES, "Line table"). An operand that doesn't read stops the program.
 ghost use Rattle.std.specs.Prelude.{◌≡◌};
 ghost use Rattle.leb128.specs.Answers.{unsigned_at, signed_at};
 ghost use Rattle.linetab.specs.Machine.{set_file, advance_pc, advance_line, range_of, special_of};

@@ -1,3 +1,2 @@
-pub mod Pick
 pub mod Bytes
 pub mod Answers

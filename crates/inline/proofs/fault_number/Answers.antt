@@ -1,6 +1,6 @@
 -- `inline::fault_number` meets its contract: each fault has its number.
 -- Assumes nothing.
-use mathlib.Core.Path.{sym, ap}
+use Rattle.std.proofs.Common.{sym, ap}
 use Rattle.inline.specs.Block.{fault_no}
 use Rattle.inline.proofs.fault_number.Goals as goal
 

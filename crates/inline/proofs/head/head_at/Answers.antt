@@ -1,4 +1,4 @@
--- `inline::head::head_at` meets its contract: the tests in reading order pick the case of `head_of`.
+-- `inline::head::head_at` meets its contract: the tests in reading order cond the case of `head_of`.
 -- Assumes nothing.
 use Rattle.inline.proofs.Heads.{raw-cut, raw-end, raw-node, head-cut, head-end, head-bad, head-node}
 use Rattle.inline.proofs.Numbers.{num-next}

@@ -30,22 +30,33 @@ pub returns-in_err-name : goal.returns-in_err-name
 returns-in_err-name c =
     let p = err_from_is_err_and c.from_residual-in_err-name.result c.from_residual-in_err-name.ensures.1 in
     let o = none_or _ _ _ c.ok_or-2.ensures.value _ c.in_err-name.was in
-    rw (p.1, p.2, o.1) (rest-cut _ _ _ _ _ (tail-no-name _ _ _ c.u8_at.ensures _ c.in_ok-kids.ensures.ok_part _ c.u32_at.ensures o.0))
+    rw (p.1, p.2, o.1) (rest-cut _ _ _ _ _ (tail-no-name _ _ _ c.u8_at.ensures _ c.in_ok-kids.ensures.ok_part
+    _ c.u32_at.ensures o.0))
 
 pub overflow_add-at-2 : goal.overflow_add-at-2
-overflow_add-at-2 c = omega (arith, name-within _ _ _ c.u8_at.ensures _ c.in_ok-kids.ensures.ok_part _ c.u32_at.ensures _ c.in_ok-name.ensures.ok_part)
+overflow_add-at-2 c =
+    omega (
+      arith,
+      name-within _ _ _ c.u8_at.ensures _ c.in_ok-kids.ensures.ok_part _ c.u32_at.ensures
+          _ c.in_ok-name.ensures.ok_part,
+    )
 
 pub returns-in_err-call_file : goal.returns-in_err-call_file
 returns-in_err-call_file c =
     let p = err_from_is_err_and c.from_residual-in_err-call_file.result c.from_residual-in_err-call_file.ensures.1 in
-    rw (p.1, p.2) (rest-cut _ _ _ _ _ (tail-cut _ _ _ c.u8_at.ensures _ c.in_ok-kids.ensures.ok_part _ c.u32_at.ensures _ c.in_ok-name.ensures.ok_part _ c.unsigned_at.ensures _ c.in_err-call_file.was))
+    rw (p.1, p.2) (rest-cut _ _ _ _ _ (tail-cut _ _ _ c.u8_at.ensures _ c.in_ok-kids.ensures.ok_part
+    _ c.u32_at.ensures _ c.in_ok-name.ensures.ok_part _ c.unsigned_at.ensures _ c.in_err-call_file.was))
 
 pub returns-in_err-line : goal.returns-in_err-line
 returns-in_err-line c =
     let p = err_from_is_err_and c.from_residual-in_err-line.result c.from_residual-in_err-line.ensures.1 in
-    rw (p.1, p.2) (rest-late _ _ _ _ _ _ (tail-late _ _ _ c.u8_at.ensures _ c.in_ok-kids.ensures.ok_part _ c.u32_at.ensures _ c.in_ok-name.ensures.ok_part _ c.unsigned_at.ensures _ _ c.in_ok-call_file.was _ c.unsigned_at-2.ensures _ c.in_err-line.was))
+    rw (p.1, p.2) (rest-late _ _ _ _ _ _ (tail-late _ _ _ c.u8_at.ensures _ c.in_ok-kids.ensures.ok_part
+    _ c.u32_at.ensures _ c.in_ok-name.ensures.ok_part _ c.unsigned_at.ensures _ _ c.in_ok-call_file.was
+    _ c.unsigned_at-2.ensures _ c.in_err-line.was))
 
 pub returns : goal.returns
 returns c =
     rest-whole _ _ _ _ _ _ _ _ _
-    (tail-whole _ _ _ c.u8_at.ensures _ c.in_ok-kids.ensures.ok_part _ c.u32_at.ensures _ c.in_ok-name.ensures.ok_part _ c.unsigned_at.ensures _ _ c.in_ok-call_file.was _ c.unsigned_at-2.ensures _ _ _ c.in_ok-line.was c.capped.ensures)
+    (tail-whole _ _ _ c.u8_at.ensures _ c.in_ok-kids.ensures.ok_part _ c.u32_at.ensures
+    _ c.in_ok-name.ensures.ok_part _ c.unsigned_at.ensures _ _ c.in_ok-call_file.was
+    _ c.unsigned_at-2.ensures _ _ _ c.in_ok-line.was c.capped.ensures)

@@ -1,4 +1,4 @@
--- `inline::judge::judge_at` meets its contract: the tests in reading order pick the case of `seen_of`.
+-- `inline::judge::judge_at` meets its contract: the tests in reading order cond the case of `seen_of`.
 -- Assumes nothing.
 use Rattle.inline.proofs.Heads.{raw-cut, raw-end, raw-node}
 use Rattle.inline.proofs.Numbers.{num-next}

@@ -1,9 +1,8 @@
 -- `inline::judge::ranges` meets its contract: what all ranges come to is what those left come to with what is kept
 -- (`spans_from`).
 -- Assumes nothing.
-use Rattle.std.proofs.Common.{◌≡◌, suc, ◌+◌, ◌-◌, true, eqb, sym, ◌∙◌, arith, eq-eqb, ne_eqb}
+use Rattle.std.proofs.Common.{◌≡◌, suc, ◌+◌, ◌-◌, true, eqb, sym, ◌∙◌, arith, eq-eqb, ne_eqb, if◌then◌else◌}
 use Rattle.std.proofs.lemmas.Result.{err_from_is_err_and}
-use Rattle.reads.specs.Pick.{pick}
 use Rattle.inline.proofs.Spans.{span-next, spans-start, spans-bad, spans-at, spans-none}
 use Rattle.inline.proofs.judge.ranges.Goals as goal
 use Rattle.inline.proofs.judge.ranges.Goals.{then-k-eq0, else-k-eq0, then-inside, else-inside}
@@ -21,13 +20,13 @@ returns-in_err-n c =
 
 pub loop-k-preserved : goal.loop-k-preserved
 loop-k-preserved c =
-    let x : c.if-k-eq0.first ≡ pick (eqb c.loop-k.k 0) c.in_ok-n.start c.loop-k.first =
+    let x : c.if-k-eq0.first ≡ (if eqb c.loop-k.k 0 then c.in_ok-n.start else c.loop-k.first) =
     elim c.if-k-eq0.branch [
       | then-k-eq0 w ↦ rw (eq-eqb _ 0 w.if-k-eq0.true) w.first-is
       | else-k-eq0 w ↦ rw (ne_eqb _ 0 w.if-k-eq0.false) w.first-is
     ]
     in
-    let y : c.if-inside.inside ≡ pick c.loop-k.inside true c.in_ok-n.holds =
+    let y : c.if-inside.inside ≡ (if c.loop-k.inside then true else c.in_ok-n.holds) =
     elim c.if-inside.branch [
       | then-inside w ↦ rw w.if-inside.true (w.inside-is ∙ w.if-inside.true)
       | else-inside w ↦ rw w.if-inside.false w.inside-is

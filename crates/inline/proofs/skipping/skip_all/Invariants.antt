@@ -1,5 +1,4 @@
-use Prim.Native.Nat.{ℕ, ◌-◌, ◌<◌, ◌≤◌}
-use lib.ListN.{length}
+use Rattle.std.proofs.Common.{ℕ, ◌-◌, ◌<◌, ◌≤◌, length}
 use Rattle.inline.proofs.Skips.{Left}
 use Rattle.inline.specs.Skip.{skip_list}
 use Rattle.inline.proofs.skipping.skip_all.Given as goal

@@ -59,25 +59,30 @@ node-overflow_add-ctx t c = omega (arith, (seen_next _ _ _ _ c.judge_at.ensures 
 
 pub node-returns-then-i-eq0 : goal.node-returns-then-i-eq0
 node-returns-then-i-eq0 t c =
-    walked-shut-leaf _ _ _ _ _ _ c.judge_at.ensures _ c.in-Node.is (not-true _ c.if-not-i.true) (omega arith) c.if-i-eq0.true
+    walked-shut-leaf _ _ _ _ _ _ c.judge_at.ensures _ c.in-Node.is (not-true _ c.if-not-i.true)
+    (omega arith) c.if-i-eq0.true
 
 pub node-returns-in-Ok : goal.node-returns-in-Ok
 node-returns-in-Ok t c =
-    walked-shut _ _ _ _ _ _ c.judge_at.ensures _ c.in-Node.is (not-true _ c.if-not-i.true) (omega arith) c.if-i-eq0.false _
+    walked-shut _ _ _ _ _ _ c.judge_at.ensures _ c.in-Node.is (not-true _ c.if-not-i.true)
+    (omega arith) c.if-i-eq0.false _
     c.skip_all.ensures _ c.in-Ok.is
 
 pub node-returns-in-Err : goal.node-returns-in-Err
 node-returns-in-Err t c =
-    walked-shut-bad _ _ _ _ _ _ c.judge_at.ensures _ c.in-Node.is (not-true _ c.if-not-i.true) (omega arith) c.if-i-eq0.false _
+    walked-shut-bad _ _ _ _ _ _ c.judge_at.ensures _ c.in-Node.is (not-true _ c.if-not-i.true)
+    (omega arith) c.if-i-eq0.false _
     c.skip_all.ensures _ c.in-Err.is
 
 pub node-returns-in_default : goal.node-returns-in_default
 node-returns-in_default t c =
-    walked-full _ _ _ _ _ _ c.judge_at.ensures _ c.in-Node.is (not-false _ c.if-not-i.false) _ _ c.push.ensures c.in_default.is
+    walked-full _ _ _ _ _ _ c.judge_at.ensures _ c.in-Node.is (not-false _ c.if-not-i.false) _
+    _ c.push.ensures c.in_default.is
 
 pub node-returns-then-i-eq0-2 : goal.node-returns-then-i-eq0-2
 node-returns-then-i-eq0-2 t c =
-    walked-leaf _ _ _ _ _ _ c.judge_at.ensures _ c.in-Node.is (not-false _ c.if-not-i.false) _ _ c.push.ensures _ c.in-Some.is
+    walked-leaf _ _ _ _ _ _ c.judge_at.ensures _ c.in-Node.is (not-false _ c.if-not-i.false) _ _ c.push.ensures
+    _ c.in-Some.is
     c.if-i-eq0-2.true
 
 pub node-overflow_add-down : goal.node-overflow_add-down
@@ -87,10 +92,15 @@ pub node-children-requires : goal.node-children-requires
 node-children-requires t c =
     let b = seen_next _ _ _ _ c.judge_at.ensures _ c.in-Node.is in (
       omega (arith, b.0, b.1),
-      (held-room _ _ _ _ _ _ c.judge_at.ensures _ c.in-Node.is (not-false _ c.if-not-i.false) _ _ c.push.ensures _ c.in-Some.is, omega arith),
+      (
+        held-room _ _ _ _ _ _ c.judge_at.ensures _ c.in-Node.is (not-false _ c.if-not-i.false) _
+            _ c.push.ensures _ c.in-Some.is,
+        omega arith,
+      ),
     )
 
 pub node-returns-else-i-eq0-2 : goal.node-returns-else-i-eq0-2
 node-returns-else-i-eq0-2 t c =
-    walked-kids _ _ _ _ _ _ c.judge_at.ensures _ c.in-Node.is (not-false _ c.if-not-i.false) _ _ c.push.ensures _ c.in-Some.is
+    walked-kids _ _ _ _ _ _ c.judge_at.ensures _ c.in-Node.is (not-false _ c.if-not-i.false) _ _ c.push.ensures
+    _ c.in-Some.is
     c.if-i-eq0-2.false _ _ c.children.ensures
