@@ -23,7 +23,7 @@ sh tests/promises.sh || fail "docs/PROMISES.md and the public functions disagree
 # rt's last line is held back until the edits' reasons are judged, so that it stays the last one printed
 tmp=$(mktemp -d) || exit 2
 trap 'rm -rf "$tmp"' EXIT
-{ rt ci 2>&1; echo $? >"$tmp/status"; } | tee "$tmp/log" | sed '$d'
+{ rt ci 2>&1; echo $? >"$tmp/status"; } | tee "$tmp/log" | awk 'NR > 1 { print last; fflush() } { last = $0 }'
 status=$(cat "$tmp/status")
 if [ "$status" = 0 ]; then
     sh tests/edits.sh "$tmp/log" || status=1
