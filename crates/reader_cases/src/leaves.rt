@@ -66,7 +66,10 @@ pub fn answer(case: &Case) -> Said {
         'd' => number(reads::u64_at(bytes, place)),
         'r' => Said::value(reads::left_at(bytes, place) as u64, 0),
         'u' => reached(leb128::unsigned_at(bytes, place)),
-        's' => reached(leb128::signed_at(bytes, place).map(|(value, next)| (int64::to_bits(value), next))),
+        's' => reached(leb128::signed_at(bytes, place).map(|(value, next)| (
+            int64::to_bits(value),
+            next,
+        ))),
         't' => text(strtab::text_at(bytes, table, StrOffset(low32(r)))),
         'n' => text(strtab::name_at(bytes, table, StrOffset(low32(r)))),
         'p' => said_part(strtab::text(bytes, Text { place, len })),
