@@ -1,5 +1,5 @@
 // The entry of an address: a halving search on the address table in place (RULES, "Finding the entry").
-ghost use Rattle.std.specs.Prelude.{◌≡◌, ◌+◌, ◌*◌, ◌^◌, ◌<◌, ◌≤◌, true, length, ◌≢◌, nat_le, if◌then◌else◌};
+ghost use Rattle.std.specs.Prelude.{◌≡◌, ◌+◌, ◌*◌, ◌<◌, ◌≤◌, true, length};
 ghost use Rattle.parser.specs.Numbers.{num_at};
 ghost use Rattle.parser.specs.Search.{is_width, len_of, entries, find_in, find_of};
 
@@ -45,7 +45,7 @@ fn is_width(size: u8) -> bool
 // Entry i of a table. The callers ask below a length that `table_len` gave.
 pub(crate) fn entry_at(table: &[u8], size: u8, i: usize) -> u64
     requires { (is_width size ≡ true) × (i * size + size ≤ length table.now) }
-    ensures { (result ≡ num_at size table.now (i * size)) × ((size ≢ 8) → result < 2 ^ 32) }
+    ensures { result ≡ num_at size table.now (i * size) }
 {
     match size {
         1 => num8(table, i) as u64,
@@ -56,6 +56,9 @@ pub(crate) fn entry_at(table: &[u8], size: u8, i: usize) -> u64
 }
 
 // The search: the chosen entry is among the `len` from `lo` on. `find_addr` gives a length that `table_len` gave.
+// Whether a turn moves can't be foreseen, so nothing should branch on it. The entry at `lo` is kept beside `lo`: where
+// one test moves an index and a number just read, the compiler makes conditional moves of it, and where it moves an
+// index alone, a branch. The test after the loop finds nothing; it is what the kept entry is needed for.
 fn halve(table: &[u8], size: u8, n: usize, wanted: u64) -> Option<usize>
     requires { (n * size ≤ length table.now) × (0 < n → is_width size ≡ true) }
     ensures { result ≡ find_in (entries size n table.now) wanted }
@@ -68,29 +71,19 @@ fn halve(table: &[u8], size: u8, n: usize, wanted: u64) -> Option<usize>
         return None;
     }
     let mut lo = 0;
+    let mut kept = first;
     let mut len = n;
     while 1 < len {
         let half = len / 2;
         let entry = entry_at(table, size, lo + half);
-        let by = step(size, entry, wanted, half);
-        lo += by;
+        if entry <= wanted {
+            lo += half;
+            kept = entry;
+        }
         len -= half;
     }
-    Some(lo)
-}
-
-// How far a turn of the search moves: by half, unless the entry there is above. Which of the two can't be foreseen, so
-// an entry of up to four bytes is compared by a quotient, 1 or 0, and not by a branch; a wanted number above those is
-// brought down to the largest of them, which tells no entry apart. `halve` gives such an entry at every size but 8.
-fn step(size: u8, entry: u64, wanted: u64, half: usize) -> usize
-    requires { (size ≢ 8) → entry < 2 ^ 32 }
-    ensures { result ≡ (if nat_le entry wanted then half else 0) }
-{
-    if size == 8 {
-        if entry <= wanted { half } else { 0 }
-    } else {
-        let near = wanted.min(0xffff_ffff);
-        let reached = (0x1_0000_0000 + near - entry) / 0x1_0000_0000;
-        half * (reached as usize)
+    if wanted < kept {
+        return None;
     }
+    Some(lo)
 }

@@ -27,13 +27,14 @@ use rows::row_in;
 use sites::{call_at, place_of, site_at};
 use types::{Address, Answer, LineNumber, Options, StrOffset, Text};
 
-// What an entry says of its symbol: address, size, name, and the place of its first item.
+// What an entry says of its symbol: address, name, the place of its first item, and size. The size stands last: in
+// front of the name it would leave a gap, and the name would be copied with the gap, in two parts that are read as one.
 #[derive(Clone, Copy)]
 pub(crate) struct Entry {
     pub symbol: Address,
-    pub size: u32,
     pub name: Text,
     pub items: usize,
+    pub size: u32,
 }
 
 // A source position.

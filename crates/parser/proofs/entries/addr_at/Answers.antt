@@ -24,4 +24,4 @@ returns c =
     symbol-there _ c.args.tables _ _ _
     c.from_place-table.ensures c.table_len-n.ensures
     c.if-n-i.false _ _
-    c.entry_at-entry.ensures.0 refl
+    c.entry_at-entry.ensures refl
