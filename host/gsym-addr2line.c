@@ -1,9 +1,10 @@
 /*
  * gsym-addr2line - turns addresses into functions and source positions, by a GSYM symbol file of any size.
  * man/gsym-addr2line.1 is its manual. Exit status: 0 all addresses are known, 1 one is not or was refused, 2 no answer
- * could be given (usage, no file, not a GSYM file, output that can't be written).
+ * could be given (usage, no file, not a GSYM file, input that can't be read, output that can't be written).
  */
 #define _GNU_SOURCE /* getopt_long, getline */
+#include <ctype.h>
 #include <errno.h>
 #include <fcntl.h>
 #include <getopt.h>
@@ -25,6 +26,12 @@ static void trouble(const char *what, const char *why)
     fprintf(stderr, "gsym-addr2line: %s: %s\n", what, why);
     exit(TROUBLE);
 }
+
+/* A word that should be an address, which may have any bytes in it. */
+struct word {
+    const char *text;
+    size_t len;
+};
 
 /* The mapped file shrank under us: nothing more can be answered. Only calls that are safe in a handler. */
 static void on_bus(int signal)
@@ -94,29 +101,45 @@ static void judge(struct bytes file)
 }
 
 /* A hexadecimal number, with or without 0x. */
-static bool parse_address(const char *text, uint64_t *addr)
+static bool parse_address(struct word word, uint64_t *addr)
 {
-    const char *digits = text[0] == '0' && (text[1] == 'x' || text[1] == 'X') ? text + 2 : text;
-    if (*digits == '\0' || strspn(digits, "0123456789abcdefABCDEF") != strlen(digits))
+    size_t at = word.len >= 2 && word.text[0] == '0' && (word.text[1] == 'x' || word.text[1] == 'X') ? 2 : 0;
+    uint64_t value = 0;
+    if (at == word.len)
         return false;
-    errno = 0;
-    unsigned long long value = strtoull(digits, NULL, 16);
+    for (; at < word.len; at++) {
+        unsigned char c = (unsigned char)word.text[at];
+        if (!isxdigit(c) || value >> 60 != 0)
+            return false;
+        value = value << 4 | (uint64_t)(c <= '9' ? c - '0' : (c | 32) - 'a' + 10);
+    }
     *addr = value;
-    return errno == 0;
+    return true;
+}
+
+/* Says that a word is no address. A control byte in it would steer the terminal. */
+static void complain(struct word word)
+{
+    fputs("gsym-addr2line: '", stderr);
+    for (size_t i = 0; i < word.len; i++) {
+        unsigned char c = (unsigned char)word.text[i];
+        fputc(c < 32 || c == 127 ? '?' : c, stderr);
+    }
+    fputs("' is no address\n", stderr);
 }
 
 /* Resolves one address; false where it is not known. */
-static bool resolve(const struct view *view, struct bytes file, const char *text)
+static bool resolve(const struct view *view, struct bytes file, struct word word)
 {
     gsym_frame frames[GSYM_MAX_FRAMES];
     uint64_t addr = 0;
     gsym_answer answer = {.number = GSYM_UNKNOWN_ADDRESS};
-    if (parse_address(text, &addr)) {
+    if (parse_address(word, &addr)) {
         /* the position alone is the same without the frames, and sooner found */
         uint32_t options = GSYM_CODE_INFO | (view->functions || view->inlines || view->json ? GSYM_INLINING : 0);
         answer = gsym_lookup(file.at, file.len, addr, options, frames, GSYM_MAX_FRAMES);
     } else {
-        fprintf(stderr, "gsym-addr2line: '%s' is no address\n", text);
+        complain(word);
         if (view->json) {
             fputs("{\"address\":null}\n", stdout);
             return false;
@@ -126,18 +149,35 @@ static bool resolve(const struct view *view, struct bytes file, const char *text
     return answer.number == GSYM_FOUND;
 }
 
-/* Addresses from standard input, each answered as soon as its line is there, for callers at the other end of a pipe. */
+/* Whether a byte parts two words of standard input. */
+static bool parts(char c)
+{
+    return c == ' ' || c == '\t' || c == '\r' || c == '\n';
+}
+
+/* Addresses from standard input, each answered as soon as its line is there, for callers at the other end of a pipe. Words
+ * are taken by length, so that a zero byte drops none. */
 static bool resolve_input(const struct view *view, struct bytes file)
 {
     char *line = NULL;
     size_t room = 0;
     bool all = true;
-    while (!ferror(stdout) && getline(&line, &room, stdin) >= 0) {
-        char *save = NULL;
-        for (char *word = strtok_r(line, " \t\r\n", &save); word != NULL; word = strtok_r(NULL, " \t\r\n", &save))
-            all &= resolve(view, file, word);
+    ssize_t len;
+    while (!ferror(stdout) && (len = getline(&line, &room, stdin)) >= 0) {
+        const char *end = line + len;
+        for (const char *at = line; at < end;) {
+            const char *start = at;
+            while (at < end && !parts(*at))
+                at++;
+            if (at > start)
+                all &= resolve(view, file, (struct word){start, (size_t)(at - start)});
+            while (at < end && parts(*at))
+                at++;
+        }
         fflush(stdout);
     }
+    if (!ferror(stdout) && !feof(stdin))
+        trouble("standard input", strerror(errno));
     free(line);
     return all;
 }
@@ -156,6 +196,14 @@ static void usage(FILE *out)
           "  -v, --version     print the version\n"
           "Addresses are hexadecimal; without any they are read from standard input.\n",
           out);
+}
+
+/* Ends after a text that was asked for. */
+static void done(void)
+{
+    if (fflush(stdout) != 0)
+        trouble("standard output", strerror(errno));
+    exit(0);
 }
 
 static struct view parse_options(int argc, char **argv)
@@ -196,10 +244,12 @@ static struct view parse_options(int argc, char **argv)
             break;
         case 'h':
             usage(stdout);
-            exit(0);
+            done();
+            break;
         case 'v':
             printf("gsym-addr2line %d.%d.%d\n", GSYM_VERSION_MAJOR, GSYM_VERSION_MINOR, GSYM_VERSION_PATCH);
-            exit(0);
+            done();
+            break;
         default:
             usage(stderr);
             exit(TROUBLE);
@@ -223,7 +273,7 @@ int main(int argc, char **argv)
     if (optind == argc)
         all = resolve_input(&view, file);
     for (int i = optind; i < argc && !ferror(stdout); i++)
-        all &= resolve(&view, file, argv[i]);
+        all &= resolve(&view, file, (struct word){argv[i], strlen(argv[i])});
     if (fflush(stdout) != 0 || ferror(stdout)) {
         /* a closed pipe is no news: whoever read it had enough */
         if (errno != EPIPE)

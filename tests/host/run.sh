@@ -108,6 +108,35 @@ same "no address" <<'END'
 /src/connector/main.c:10
 END
 
+# a zero byte in a line drops no word, and a word that is no address is answered as such
+printf '1155\000 1065\n' | "$tool" -e $sample -f >"$tmp/out" 2>"$tmp/errors"
+status "a zero byte in a word" 1 $?
+same "a zero byte in a word" <<'END'
+??
+??:0
+read_stock
+/src/connector/sync.c:21
+END
+printf '10\033[2J\n' | "$tool" -e $sample >"$tmp/out" 2>"$tmp/errors"
+cp "$tmp/errors" "$tmp/out"
+same "a bad word can't steer the terminal" <<'END'
+gsym-addr2line: '10?[2J' is no address
+END
+"$tool" -e $sample 10000000000000001155 >"$tmp/out" 2>"$tmp/errors"
+status "an address above 64 bits" 1 $?
+"$tool" -e $sample <&- >"$tmp/out" 2>"$tmp/errors"
+status "a closed standard input" 2 $?
+"$tool" -e $sample <"$tmp" >"$tmp/out" 2>"$tmp/errors"
+status "a folder as standard input" 2 $?
+checks=$((checks + 1))
+grep -qF "standard input: Is a directory" "$tmp/errors" || { echo "tests/host: a folder as standard input: no message"; failed=1; }
+if [ -c /dev/full ]; then
+    for word in --help --version; do
+        "$tool" $word >/dev/full 2>"$tmp/errors"
+        status "$word to a full device" 2 $?
+    done
+fi
+
 # whoever reads may stop at any time
 i=0
 while [ $i -lt 20000 ]; do echo 1155; i=$((i + 1)); done >"$tmp/many"
