@@ -56,7 +56,7 @@ fn edges(data: &mut &[u8], base: u64, level: u32, out: &mut Vec<u64>, deepest: &
 
 fn compare(b: &Block, addr: u64, deepest: u32) -> bool {
     let mut store = [0xeeee_eeeeu32; 192];
-    let got = unsafe { gsym_block(b.bytes.as_ptr(), b.bytes.len(), b.symbol, addr, store.as_mut_ptr(), 192) };
+    let got = unsafe { gsym_block(b.bytes.as_ptr(), b.bytes.len(), b.symbol, addr, store.as_mut_ptr(), 64) };
     let want = match facade::block(b.bytes, b.symbol, addr) {
         // outside the domain: document 01 decides
         _ if deepest > 64 => Err(13),
@@ -83,7 +83,7 @@ fn rattle_pass(all: &[Block]) -> u64 {
     all.iter()
         .map(|b| {
             let addr = b.symbol + b.size / 2;
-            unsafe { gsym_block(b.bytes.as_ptr(), b.bytes.len(), b.symbol, addr, store.as_mut_ptr(), 192) }.count as u64
+            unsafe { gsym_block(b.bytes.as_ptr(), b.bytes.len(), b.symbol, addr, store.as_mut_ptr(), 64) }.count as u64
         })
         .sum()
 }

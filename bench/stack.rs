@@ -26,7 +26,7 @@ fn main() {
     let read = move || {
         let block = chain();
         let mut store = vec![0u32; 192];
-        let a = unsafe { gsym_block(block.as_ptr(), block.len(), 0x1000, addr, store.as_mut_ptr(), store.len()) };
+        let a = unsafe { gsym_block(block.as_ptr(), block.len(), 0x1000, addr, store.as_mut_ptr(), store.len() / 3) };
         assert_eq!((a.number, a.count), (0, if addr == 0x1001 { 64 } else { 0 }));
         println!("a block of 64 levels ({}) is read on a thread with {bytes} bytes of stack", args[2]);
     };

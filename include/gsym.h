@@ -80,7 +80,7 @@ typedef struct gsym_frame {
     gsym_text name; /* UTF-8 */
     gsym_text dir;
     gsym_text file;
-    uint64_t line;
+    uint32_t line;
 } gsym_frame;
 
 /* A record of gsym_block_frames: a name as offset in the string table, and where it was called. */

@@ -16,7 +16,7 @@ for file in crates/*/src/*.rt; do
         }
         open && /^ *requires / { clauses = clauses " requires" }
         open && /^ *ensures / { clauses = clauses " ensures" }
-        open && /^ *\{$|\{$/ { if (open) print name clauses; open = 0 }
+        open && /\{\}?$/ { if (open) print name clauses; open = 0 }
     ' "$file")
     [ -n "$list" ] || continue
     while read -r name clauses; do

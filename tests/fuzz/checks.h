@@ -64,12 +64,22 @@ typedef struct looked {
     gsym_frame frames[MOST_FRAMES];
 } looked;
 
+/* field by field: nothing is said of the four bytes behind a line */
+static int same_frames(const gsym_frame *x, const gsym_frame *y, size_t count)
+{
+    for (size_t i = 0; i < count; i++)
+        if (!same_text(x[i].name, y[i].name) || !same_text(x[i].dir, y[i].dir) || !same_text(x[i].file, y[i].file) ||
+            x[i].line != y[i].line)
+            return 0;
+    return 1;
+}
+
 static int same_looked(const looked *x, const looked *y)
 {
     gsym_answer a = x->a, b = y->a;
     return a.number == b.number && a.has_code == b.has_code && a.addr == b.addr && a.size == b.size &&
            a.line == b.line && same_text(a.name, b.name) && same_text(a.dir, b.dir) && same_text(a.file, b.file) &&
-           a.count == b.count && memcmp(x->frames, y->frames, (size_t)a.count * sizeof(gsym_frame)) == 0;
+           a.count == b.count && same_frames(x->frames, y->frames, (size_t)a.count);
 }
 
 static void check_refusal(bytes file, gsym_answer a, uint32_t options)
@@ -107,7 +117,6 @@ static void check_found(bytes file, uint64_t addr, uint32_t options, size_t room
         check_text(file, l->frames[i].name, 1);
         check_text(file, l->frames[i].dir, 0);
         check_text(file, l->frames[i].file, 0);
-        HOLDS(l->frames[i].line <= UINT32_MAX, "a line number has 32 bits");
     }
 }
 

@@ -107,7 +107,7 @@ pub struct Frame {
     /// The file in it; any bytes.
     pub file: Text,
     /// The line.
-    pub line: u64,
+    pub line: u32,
 }
 
 /// A record of [`block_frames`].
@@ -147,7 +147,7 @@ impl Answer {
             name: f.name.str(file).unwrap_or(""),
             dir: f.dir.bytes(file),
             file: f.file.bytes(file),
-            line: u32::try_from(f.line).ok(),
+            line: Some(f.line),
         });
         let symbol = Call {
             name: answer.name.str(file).unwrap_or(""),

@@ -1,4 +1,3 @@
-pub mod Overs
-pub mod Listings
-pub mod Lines
-pub mod Records
+pub mod Rooms
+pub mod Told
+pub mod Blocks

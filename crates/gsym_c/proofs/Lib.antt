@@ -1,3 +1,1 @@
-pub mod Copies
-pub mod Listing
-pub mod Looking
+mod Told

@@ -1,34 +1,44 @@
--- What C hosts get: answers laid out as C has them, and the lent list afterwards.
+-- What C hosts get: what is asked for as bits, and answers laid out as C has them.
 -- Assumes nothing.
-use Rattle.std.specs.Prelude.{ℕ, min, List, [], ◌∷◌, ◌++◌, map, ◌≡◌, length, drop}
-use Rattle.types.specs.declared.InlineFrame.{InlineFrame}
-use Rattle.inline.specs.declared.Listed.{Listed}
-use Rattle.inline.specs.Block.{Block, block_of, listing, frames_of}
+use Rattle.std.specs.Prelude.{Ok, Err, Result, ℕ, ◌/◌, ◌%◌, Bool, true, false, eqb}
+use Rattle.types.specs.declared.Address.{Address}
+use Rattle.types.specs.declared.Options.{Options}
+use Rattle.types.specs.declared.Answer.{Answer}
+use Rattle.types.specs.declared.Refusal.{Refusal}
+use Rattle.types.specs.Refusal.{number_of}
+use Rattle.gsym_c.specs.declared.GsymAnswer.{GsymAnswer}
 use Rattle.gsym_c.specs.declared.GsymListed.{GsymListed}
 
--- the room of a lent list
-abbrev pub room_for : List (List ℕ) → ℕ
-room_for list = min 64 (length list)
+-- a number as an address
+abbrev pub address : ℕ → Address
+address a = record { 0 = a }
 
--- exactly the records of a list are written; what is past them stays
-abbrev pub written : {A : Type 0} → (A → List ℕ) → List A → List (List ℕ) → List (List ℕ)
-written row fs entry = map row fs ++ drop (length fs) entry
+-- bit 0 asks for code info, bit 1 for inlining; the others are ignored
+abbrev pub options_of : ℕ → Options
+options_of bits = record { code_info = eqb (bits % 2) 1; inlining = eqb (bits / 2 % 2) 1 }
 
--- ---- a single block
+abbrev pub flag : Bool → ℕ
+flag true = 1
+flag false = 0
 
--- the numbers of a frame: name, call file, call line
-abbrev pub row_of : InlineFrame → List ℕ
-row_of f = f.name.0 ∷ f.call_file.0 ∷ f.call_line.0 ∷ []
+-- field by field; a text is its place and its length
+abbrev pub laid : Answer → GsymAnswer
+laid a = record {
+  number = a.number;
+  has_code = flag a.has_code;
+  addr = a.addr.0;
+  size = a.size;
+  line = a.line.0;
+  name_place = a.name.place;
+  name_len = a.name.len;
+  dir_place = a.dir.place;
+  dir_len = a.dir.len;
+  file_place = a.file.place;
+  file_len = a.file.len;
+  count = a.count;
+}
 
-abbrev pub laid_listed : Listed → GsymListed
-laid_listed l = record { count = l.count; number = l.number }
-
--- what a block is: its frames, or its refusal
-abbrev pub block_at : List ℕ → (symbol addr : ℕ) → List (List ℕ) → Block
-block_at bytes symbol addr entry = block_of symbol addr (room_for entry) bytes
-
--- what reading a block answers and leaves in the lent list
-pub record ListsBlock (bytes : List ℕ) (symbol addr : ℕ) (entry exit : List (List ℕ)) (r : GsymListed) :
-    Type 0 where
-  pub says : r ≡ laid_listed (listing (block_at bytes symbol addr entry))
-  pub lent : exit ≡ written row_of (frames_of (block_at bytes symbol addr entry)) entry
+-- number 0 and how many frames, or the refusal's number and 0
+abbrev pub laid_listed : Result ℕ Refusal → GsymListed
+laid_listed (Ok count) = record { count = count; number = 0 }
+laid_listed (Err r) = record { count = 0; number = number_of r }

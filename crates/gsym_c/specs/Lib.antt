@@ -1,3 +1,1 @@
-pub mod Copied
 pub mod Laid
-pub mod Asked

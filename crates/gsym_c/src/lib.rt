@@ -1,24 +1,23 @@
-// What C hosts call; include/gsym.h is their manual. Each function hands its arguments on, lays the answer out as C has
-// it, and copies the records of an answer to the lent list: exactly those, and none of a refusal.
-//   copying   records from a list of numbers to a lent list
+// What C hosts call; include/gsym.h is their manual. Each function hands its arguments on, and lays the answer out as C
+// has it. The records of the lent list are laid out so already.
 #![tactic(auto)]
 
-mod copying;
+ghost use Rattle.std.specs.Prelude.{◌≡◌, ◌≢◌, ◌↔◌, ◌≤◌, min, length, take, drop};
+ghost use Rattle.types.specs.Refusal.{refusal};
+ghost use Rattle.inline.specs.Block.{block_of};
+ghost use Rattle.inline.specs.ListsFrames.{ListsFrames};
+ghost use Rattle.inline.specs.Steps.{steps_of};
+ghost use Rattle.inline.specs.FirstFault.{FirstFault};
+ghost use Rattle.resolver.specs.Lookup.{lookup_of};
+ghost use Rattle.resolver.specs.Met.{Met};
+ghost use Rattle.resolver.specs.Blocks.{RefusedByBlock};
+ghost use Rattle.gsym.specs.Lists.{written_over, block_over, counted};
+ghost use Rattle.gsym_c.specs.Laid.{address, options_of, flag, laid, laid_listed};
 
-ghost use Rattle.std.specs.Prelude.{◌≡◌, min, length};
-ghost use Rattle.resolver.specs.Stages.{all_options};
-ghost use Rattle.resolver.specs.Rows.{records_in};
-ghost use Rattle.gsym_c.specs.Laid.{ListsBlock};
-ghost use Rattle.gsym_c.specs.Asked.{address, options_of, asks_frames, flag, laid, LooksWith, LooksUp};
-
-use copying::{FRAME_WIDTH, RECORD_WIDTH, copy_frames, copy_records};
-use types::{Address, Answer, Options};
+use types::{Address, Answer, Frame, InlineFrame, Options, Refusal};
 
 // The version, 0.1.0, as include/gsym.h counts it.
 const VERSION: u32 = 100;
-
-// Room for the frames of most addresses.
-const FEW_FRAMES: usize = 16;
 
 // What a lookup answers, as C has it.
 #[repr(C)]
@@ -64,13 +63,6 @@ fn asked_by(bits: u32) -> Options
     }
 }
 
-// Whether records are asked for.
-fn asks_frames(o: Options) -> bool
-    ensures { result ≡ asks_frames o }
-{
-    if o.code_info { o.inlining } else { false }
-}
-
 // An answer as C has it.
 fn lay_out(a: Answer) -> GsymAnswer
     ensures { result ≡ laid a }
@@ -97,52 +89,6 @@ fn lay_out(a: Answer) -> GsymAnswer
     }
 }
 
-// A lookup with position and inlined calls. Its records stand in `space` first, seven numbers each; there is room for no
-// more than fit there and in the lent list.
-fn lookup_by(file: &[u8], addr: Address, space: &mut [u64], records: &mut [[u64; 7]]) -> GsymAnswer
-    ensures { LooksWith file.now addr all_options (min (records_in space.old) (length records.old))
-        records.old records.new result }
-{
-    let all = Options {
-        code_info: true,
-        inlining: true,
-    };
-    let room = records.len().min(space.len() / RECORD_WIDTH);
-    let store = &mut space[..RECORD_WIDTH * room];
-    let answer = resolver::lookup_in(file, addr, all, store);
-    copy_records(store, answer.count, records);
-    lay_out(answer)
-}
-
-// `lookup_by`, with room for 16 frames at most.
-fn lookup_few(file: &[u8], addr: Address, records: &mut [[u64; 7]]) -> GsymAnswer
-    ensures { LooksWith file.now addr all_options (min 16 (length records.old))
-        records.old records.new result }
-{
-    let mut space = [0; RECORD_WIDTH * FEW_FRAMES];
-    lookup_by(file, addr, &mut space, records)
-}
-
-// `lookup_by`, with room for as many frames as there may be.
-fn lookup_many(file: &[u8], addr: Address, records: &mut [[u64; 7]]) -> GsymAnswer
-    ensures { LooksUp file.now addr all_options records.old records.new result }
-{
-    let mut space = [0; RECORD_WIDTH * types::MAX_FRAMES];
-    lookup_by(file, addr, &mut space, records)
-}
-
-// A lookup with position and inlined calls. Most addresses have few frames, and a large space costs more to fill than
-// they cost to read; more room changes nothing but 14.
-fn lookup_all(file: &[u8], addr: Address, records: &mut [[u64; 7]]) -> GsymAnswer
-    ensures { LooksUp file.now addr all_options records.old records.new result }
-{
-    let few = lookup_few(file, addr, records);
-    if few.number != types::TOO_MANY_FRAMES as u32 {
-        return few;
-    }
-    lookup_many(file, addr, records)
-}
-
 // The symbol of an address, with what `options` ask for: bit 0 its source position, bit 1 the calls inlined there, both
 // or nothing of them; other bits are ignored. The records go to the front of `frames`, with room for the smaller of 64
 // and its length. Written are exactly the records; a refusal (1 to 14) writes none, and without both bits the list
@@ -152,39 +98,67 @@ pub extern "C" fn gsym_lookup(
     file: &[u8],
     addr: u64,
     options: u32,
-    frames: &mut [[u64; 7]],
+    frames: &mut [Frame],
 ) -> GsymAnswer
-    ensures { LooksUp file.now (address addr) (options_of options) frames.old frames.new result }
+    ensures number { result.number ≤ 14 }
+    // other than 0 exactly if its condition is met, of several the first in the order of RULES
+    ensures refused { (result.number ≢ 0)
+        ↔ Met file.now (address addr) (options_of options) (min 64 (length frames.old)) result.number }
+    ensures zeros { result.number ≢ 0 → (result ≡ laid (refusal result.number)) × (frames.new ≡ frames.old) }
+    // a number from 10 on is that of the first fault of one of the entry's blocks, the first that doesn't list none
+    ensures blocks { 10 ≤ result.number
+        → RefusedByBlock file.now (address addr) (options_of options) (min 64 (length frames.old)) result.number }
+    ensures within { result.count ≤ length frames.new }
+    ensures stays { drop result.count frames.new ≡ drop result.count frames.old }
+    ensures below { result.addr ≤ addr }
+    ensures answer { result
+        ≡ laid (lookup_of file.now (address addr) (options_of options) (min 64 (length frames.old))).answer }
+    ensures list { frames.new
+        ≡ written_over (lookup_of file.now (address addr) (options_of options) (min 64 (length frames.old))) frames.old }
 {
-    let asked = asked_by(options);
-    if asks_frames(asked) {
-        return lookup_all(file, Address(addr), frames);
-    }
-    let answer = resolver::lookup_plain(file, Address(addr), asked.code_info);
-    lay_out(answer)
+    lay_out(gsym::lookup(file, Address(addr), asked_by(options), frames))
 }
 
 // ---- a single block
 
-// The frames of one block at an address, for the symbol that it belongs to: `inline::block_in`. There is room for the
+// What a block has, as C has it.
+fn lay_listed(read: Result<usize, Refusal>) -> GsymListed
+    ensures { result ≡ laid_listed read }
+{
+    match read {
+        Ok(count) => GsymListed {
+            count: count as u64,
+            number: types::FOUND as u32,
+        },
+        Err(refusal) => GsymListed {
+            count: 0,
+            number: refusal.number() as u32,
+        },
+    }
+}
+
+// The frames of one block at an address, for the symbol that it belongs to: `gsym::block_frames`. There is room for the
 // smaller of 64 and the list's length. Written are exactly the frames; a refusal (10 to 14) writes none.
 #[unsafe(no_mangle)]
 pub extern "C" fn gsym_block_frames(
     block: &[u8],
     symbol: u64,
     addr: u64,
-    frames: &mut [[u32; 3]],
+    frames: &mut [InlineFrame],
 ) -> GsymListed
-    ensures { ListsBlock block.now symbol addr frames.old frames.new result }
+    // 0 exactly if the block reads: the list then begins with its frames, those of its open nodes that have a name
+    ensures listed { (result.number ≡ 0)
+        ↔ ListsFrames symbol addr (min 64 (length frames.old)) block.now (take result.count frames.new) }
+    // another number exactly if it is that of the first fault among the steps of reading the block
+    ensures refused { (result.number ≢ 0)
+        ↔ FirstFault (min 64 (length frames.old)) (steps_of symbol addr block.now) result.number }
+    ensures zeros { result.number ≢ 0 → (result.count ≡ 0) × (frames.new ≡ frames.old) }
+    ensures within { (result.count ≤ length frames.new) × (result.count ≤ 64) }
+    ensures stays { drop result.count frames.new ≡ drop result.count frames.old }
+    ensures answer { result ≡ laid_listed (counted (block_of symbol addr (min 64 (length frames.old)) block.now)) }
+    ensures list { frames.new ≡ block_over (block_of symbol addr (min 64 (length frames.old)) block.now) frames.old }
 {
-    let mut space = [0; FRAME_WIDTH * types::MAX_FRAMES];
-    let store = &mut space[..FRAME_WIDTH * frames.len().min(types::MAX_FRAMES)];
-    let listed = inline::block_in(block, Address(symbol), Address(addr), store);
-    copy_frames(store, listed.count, frames);
-    GsymListed {
-        count: listed.count as u64,
-        number: listed.number as u32,
-    }
+    lay_listed(gsym::block_frames(block, Address(symbol), Address(addr), frames))
 }
 
 // The version of the library.

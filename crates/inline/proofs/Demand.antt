@@ -1,29 +1,17 @@
 -- What the call that reads one block lists (RULES, "Inline tree").
 -- Assumes nothing.
-use Rattle.std.proofs.Common.{ℕ, ◌*◌, ◌≤◌, List, [], ◌≡◌, refl, sym, ap, subst, ◌∙◌, length, take, arith}
+use Rattle.std.proofs.Common.{Ok, Err, Result, OnErr, ℕ, min, ◌≤◌, List, [], ◌≡◌, refl, sym, ap, subst, ◌∙◌, length, arith}
 use Rattle.types.specs.declared.InlineFrame.{InlineFrame}
 use Rattle.inline.specs.Frames.{frames}
-use Rattle.inline.specs.Store.{flat}
 use Rattle.inline.specs.Walk.{Out, ended, past, bad, then_seen, walk_node}
-use Rattle.inline.specs.Block.{
-  Block,
-  listed,
-  refused,
-  fault_no,
-  root_ctx,
-  block_from,
-  block_of,
-  room_of,
-  listing,
-  frames_of,
-  Lists,
-}
+use Rattle.types.specs.declared.Refusal.{Refusal}
+use Rattle.types.specs.Refusal.{number_of}
+use Rattle.inline.specs.Block.{refusal_of, root_ctx, block_from, block_of, listing}
 use Rattle.inline.specs.Torn.{Read, got, torn, tree_of}
 use Rattle.inline.specs.Said.{Said, fine, wrong, say_forest, say_torn, out_of, say_read}
 use Rattle.inline.specs.Reads.{Reads}
 use Rattle.inline.specs.declared.head.Fault.{Fault}
 use Rattle.inline.specs.declared.head.Fault.TheVariants as fault
-use Rattle.inline.specs.declared.Listed.{Listed}
 use Rattle.inline.proofs.Numbers.{never}
 use Rattle.inline.proofs.Trees.{node-root}
 use Rattle.inline.proofs.Conditions.{levels-depth, depth-levels}
@@ -45,45 +33,44 @@ block-is symbol addr room bytes =
     sym (root-alone (walk_node (length bytes) bytes (root_ctx symbol addr room) 0 []))
     ∙ ap block_from (node-root (length bytes) bytes (root_ctx symbol addr room) 0 [])
 
--- a refusal's number is one from 10 to 14
-pub fault-no : (f : Fault) → (10 ≤ fault_no f) × (fault_no f ≤ 14)
-unfolding fault_no
-fault-no (fault.Unread k) = (omega arith, omega arith)
-fault-no fault.Sum = (omega arith, omega arith)
-fault-no fault.CallFile = (omega arith, omega arith)
-fault-no fault.Level = (omega arith, omega arith)
-fault-no fault.Room = (omega arith, omega arith)
+-- a refusal of a block has one of the numbers 10 to 14
+abbrev pub OfBlock : Refusal → Type 0
+OfBlock r = (10 ≤ number_of r) × (number_of r ≤ 14)
+
+pub fault-number : (f : Fault) → OfBlock (refusal_of f)
+fault-number (fault.Unread k) = (omega arith, omega arith)
+fault-number fault.Sum = (omega arith, omega arith)
+fault-number fault.CallFile = (omega arith, omega arith)
+fault-number fault.Level = (omega arith, omega arith)
+fault-number fault.Room = (omega arith, omega arith)
 
 -- what was listed or refused
 from_out :
-    (x : Out) → ((fs : List InlineFrame) → block_from x ≡ listed fs → ⊥) →
-    (e : ℕ) × (block_from x ≡ refused e) × (10 ≤ e) × (e ≤ 14)
+    (x : Out) → ((fs : List InlineFrame) → block_from x ≡ Ok fs → ⊥) → (r : Refusal) × (block_from x ≡ Err r) × OfBlock r
 unfolding block_from
 from_out (ended n fs) h = absurd (h fs refl)
 from_out (past n fs) h = absurd (h fs refl)
-from_out (bad f) h = let b = fault-no f in (fault_no f, refl, b.0, b.1)
+from_out (bad f) h = (refusal_of f, refl, fault-number f)
 
-out-no : (x : Out) (e : ℕ) → block_from x ≡ refused e → (10 ≤ e) × (e ≤ 14)
+out-number : (x : Out) (r : Refusal) → block_from x ≡ Err r → OfBlock r
 unfolding block_from
-out-no (ended n fs) e p = never (let z : ◌≡◌ {A = ℕ} 0 1 = cc in z)
-out-no (past n fs) e p = never (let z : ◌≡◌ {A = ℕ} 0 1 = cc in z)
-out-no (bad f) e p =
-    let q : fault_no f ≡ e = cc in
-    subst (λ (n : ℕ). (10 ≤ n) × (n ≤ 14)) q (fault-no f)
+out-number (ended n fs) r p = never (let z : ◌≡◌ {A = ℕ} 0 1 = cc in z)
+out-number (past n fs) r p = never (let z : ◌≡◌ {A = ℕ} 0 1 = cc in z)
+out-number (bad f) r p = let q : refusal_of f ≡ r = cc in subst OfBlock q (fault-number f)
 
-no-list : (f : Fault) (fs : List InlineFrame) → block_from (bad f) ≡ listed fs → ◌≡◌ {A = ℕ} 0 1
+no-list : (f : Fault) (fs : List InlineFrame) → block_from (bad f) ≡ Ok fs → ◌≡◌ {A = ℕ} 0 1
 unfolding block_from
 no-list f fs p = cc
 
 from-said :
-    (n : ℕ) (fs : List InlineFrame) (x : Said) → block_from (out_of n x) ≡ listed fs → x ≡ fine fs
+    (n : ℕ) (fs : List InlineFrame) (x : Said) → block_from (out_of n x) ≡ Ok fs → x ≡ fine fs
 unfolding block_from out_of
 from-said n fs (fine a) p = cc
 from-said n fs (wrong f) p = never (let z : ◌≡◌ {A = ℕ} 0 1 = cc in z)
 
 from-tree :
     (symbol addr room : ℕ) (bytes : List ℕ) (fs : List InlineFrame) (x : Read) → tree_of bytes ≡ x →
-    block_from (say_read (root_ctx symbol addr room) (tree_of bytes) []) ≡ listed fs → Reads symbol addr room bytes
+    block_from (say_read (root_ctx symbol addr room) (tree_of bytes) []) ≡ Ok fs → Reads symbol addr room bytes
 unfolding say_read
 from-tree symbol addr room bytes fs (got n t) e p =
     let c = root_ctx symbol addr room in
@@ -108,7 +95,7 @@ module _ (symbol addr room : ℕ) (bytes : List ℕ) where
   -- the next. Offsets count from the parent's first range start, at the root from the symbol's address."
   pub lists :
       (R : Reads symbol addr room bytes) →
-      block_of symbol addr room bytes ≡ listed (frames addr symbol R.forest)
+      block_of symbol addr room bytes ≡ Ok (frames addr symbol R.forest)
   unfolding say_read out_of block_from
   lists R =
       block-is symbol addr room bytes
@@ -118,46 +105,64 @@ module _ (symbol addr room : ℕ) (bytes : List ℕ) where
       (depth-levels 1 R.forest (omega (arith, R.levels))) R.few)
 
   -- frames are listed only where the block reads
-  pub reads : (fs : List InlineFrame) → block_of symbol addr room bytes ≡ listed fs → Reads symbol addr room bytes
+  pub reads : (fs : List InlineFrame) → block_of symbol addr room bytes ≡ Ok fs → Reads symbol addr room bytes
   reads fs p = from-tree symbol addr room bytes fs (tree_of bytes) refl (sym (block-is symbol addr room bytes) ∙ p)
 
   -- a refusal's number
-  pub refused-no : (e : ℕ) → block_of symbol addr room bytes ≡ refused e → (10 ≤ e) × (e ≤ 14)
+  pub refused-number : (r : Refusal) → block_of symbol addr room bytes ≡ Err r → OfBlock r
   unfolding block_of
-  refused-no e p = out-no (walk_node (length bytes) bytes (root_ctx symbol addr room) 0 []) e p
+  refused-number r p = out-number (walk_node (length bytes) bytes (root_ctx symbol addr room) 0 []) r p
 
-  -- A block that doesn't read so is refused with the first fault in reading order: `block_of` is that reading in one
-  -- pass, with its faults in the order of RULES.
+  -- A block that doesn't read so is refused with the first fault in reading order: here that it is refused.
+  -- proofs/FirstFault.antt says with which number.
   pub refuses :
       (Reads symbol addr room bytes → ⊥) →
-      (e : ℕ) × (block_of symbol addr room bytes ≡ refused e) × (10 ≤ e) × (e ≤ 14)
+      (r : Refusal) × (block_of symbol addr room bytes ≡ Err r) × OfBlock r
   unfolding block_of
   refuses none_reads =
       from_out (walk_node (length bytes) bytes (root_ctx symbol addr room) 0 []) (λ fs p. none_reads (reads fs p))
 
+  -- frames are never more than the room
+  pub block_room : (fs : List InlineFrame) → block_of symbol addr room bytes ≡ Ok fs → length fs ≤ room
+  block_room fs e =
+      let R = reads fs e in
+      let q = lists R in
+      let p : frames addr symbol R.forest ≡ fs = cc in
+      subst (λ (l : List InlineFrame). length l ≤ room) p R.few
+
 -- ---- and so does the call, by its contract
 
-module _ (bytes : List ℕ) (symbol addr : ℕ) (entry exit : List ℕ) (r : Listed)
-    (L : Lists bytes symbol addr entry exit r) where
+module _ (bytes : List ℕ) (symbol addr room : ℕ) (fs : List InlineFrame) (r : Result Unit Refusal)
+    (L : listing r fs ≡ block_of symbol addr (min 64 room) bytes) (E : OnErr r (fs ≡ [])) where
   pub call-lists :
-      (R : Reads symbol addr (room_of entry) bytes) →
-      (r ≡ record { number = 0; count = length (frames addr symbol R.forest) })
-      × (take (3 * r.count) exit ≡ flat (frames addr symbol R.forest))
-  unfolding listing frames_of
-  call-lists R =
-      let e = lists symbol addr (room_of entry) bytes R in
-      (L.says ∙ ap listing e, L.frames ∙ ap (λ (b : Block). flat (frames_of b)) e)
+      (R : Reads symbol addr (min 64 room) bytes) → (r ≡ Ok tt) × (fs ≡ frames addr symbol R.forest)
+  call-lists R = go r (L ∙ lists symbol addr (min 64 room) bytes R)
+    where
+      go : (x : Result Unit Refusal) → listing x fs ≡ Ok (frames addr symbol R.forest) →
+          (x ≡ Ok tt) × (fs ≡ frames addr symbol R.forest)
+      go (Ok u) e = (refl, cc)
+      go (Err k) e = never (let z : ◌≡◌ {A = ℕ} 0 1 = cc in z)
 
   pub call-refuses :
-      (Reads symbol addr (room_of entry) bytes → ⊥) →
-      (e : ℕ) × (r ≡ record { number = e; count = 0 }) × (10 ≤ e) × (e ≤ 14)
-  unfolding listing
+      (Reads symbol addr (min 64 room) bytes → ⊥) → (k : Refusal) × (r ≡ Err k) × (fs ≡ []) × OfBlock k
   call-refuses none_reads =
-      let o = refuses symbol addr (room_of entry) bytes none_reads in
-      (o.0, L.says ∙ ap listing o.1, o.2, o.3)
+      let o = refuses symbol addr (min 64 room) bytes none_reads in
+      go r E o.0 o.2 (L ∙ o.1)
+    where
+      go : (x : Result Unit Refusal) → OnErr x (fs ≡ []) → (k : Refusal) → OfBlock k → listing x fs ≡ Err k →
+          (k : Refusal) × (x ≡ Err k) × (fs ≡ []) × OfBlock k
+      go (Ok u) z k b e = never (let z : ◌≡◌ {A = ℕ} 0 1 = cc in z)
+      go (Err j) z k b e = let q : k ≡ j = cc in (j, refl, z, subst OfBlock q b)
 
   -- no second answer fits, and no second list of frames
   pub call-unique :
-      (exit' : List ℕ) (r' : Listed) → Lists bytes symbol addr entry exit' r' →
-      (r ≡ r') × (take (3 * r.count) exit ≡ take (3 * r'.count) exit')
-  call-unique exit' r' L' = (L.says ∙ sym L'.says, L.frames ∙ sym L'.frames)
+      (gs : List InlineFrame) (q : Result Unit Refusal) → listing q gs ≡ block_of symbol addr (min 64 room) bytes →
+      OnErr q (gs ≡ []) → (r ≡ q) × (fs ≡ gs)
+  call-unique gs q M F = go r E q F (L ∙ sym M)
+    where
+      go : (x : Result Unit Refusal) → OnErr x (fs ≡ []) → (y : Result Unit Refusal) → OnErr y (gs ≡ []) →
+          listing x fs ≡ listing y gs → (x ≡ y) × (fs ≡ gs)
+      go (Ok u) z (Ok v) w e = (refl, cc)
+      go (Ok u) z (Err k) w e = never (let z : ◌≡◌ {A = ℕ} 0 1 = cc in z)
+      go (Err k) z (Ok v) w e = never (let z : ◌≡◌ {A = ℕ} 0 1 = cc in z)
+      go (Err j) z (Err k) w e = (cc, z ∙ sym w)

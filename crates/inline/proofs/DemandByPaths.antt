@@ -1,12 +1,12 @@
 -- From the bytes to the paths: where a block reads, what `block_of` lists is exactly what `ListsByPaths` says of the
 -- paths of its tree, and the conditions of RULES are those on its judged nodes and its levels.
 -- Assumes nothing.
-use Rattle.std.proofs.Common.{ℕ, ◌≤◌, List, ◌↔◌, ◌≡◌, ap, sym, ◌∙◌, length}
+use Rattle.std.proofs.Common.{Ok, ℕ, ◌≤◌, List, ◌↔◌, ◌≡◌, ap, sym, ◌∙◌, length}
 use Rattle.types.specs.declared.InlineFrame.{InlineFrame}
 use Rattle.inline.specs.Tree.{Forest}
 use Rattle.inline.specs.Frames.{frames}
 use Rattle.inline.specs.Paths.{NodePath, ListsByPaths, JudgedFit, NoneOn}
-use Rattle.inline.specs.Block.{listed, block_of}
+use Rattle.inline.specs.Block.{Block, block_of}
 use Rattle.inline.specs.Torn.{got, tree_of}
 use Rattle.inline.specs.Reads.{Reads}
 use Rattle.inline.proofs.Conditions.{fits_both, fits-sums, fits-files}
@@ -14,7 +14,10 @@ use Rattle.inline.proofs.Demand.{lists}
 use Rattle.inline.proofs.ByPaths.{demand-3}
 use Rattle.inline.proofs.ByPathsFits.{fits_iff, none-on-iff}
 
-same-list : (fs gs : List InlineFrame) → listed fs ≡ listed gs → fs ≡ gs
+abbrev ok_list : List InlineFrame → Block
+ok_list fs = Ok fs
+
+same-list : (fs gs : List InlineFrame) → ok_list fs ≡ ok_list gs → fs ≡ gs
 same-list fs gs e = cc
 
 module _ (symbol addr room : ℕ) (bytes : List ℕ) where
@@ -24,11 +27,11 @@ module _ (symbol addr room : ℕ) (bytes : List ℕ) where
     -- the next."
     pub listed-by-paths :
         (fs : List InlineFrame) →
-        (block_of symbol addr room bytes ≡ listed fs)
+        (block_of symbol addr room bytes ≡ Ok fs)
         ↔ ((ps : List NodePath) × ListsByPaths addr symbol R.forest ps fs)
     listed-by-paths fs = (
       λ e. (demand-3 addr symbol R.forest fs).1 (same-list _ _ (sym e ∙ lists symbol addr room bytes R)),
-      λ l. lists symbol addr room bytes R ∙ ap listed (sym ((demand-3 addr symbol R.forest fs).0 l)),
+      λ l. lists symbol addr room bytes R ∙ ap ok_list (sym ((demand-3 addr symbol R.forest fs).0 l)),
     )
 
     -- no judged node has a sum above 2^64-1 or a call file above the limit

@@ -3,7 +3,7 @@
 use Rattle.std.proofs.Common.{Ok, Err, Result, ℕ, ◌+◌, ◌<◌, ◌≤◌, List, Bool, ◌≡◌, refl, sym, ap, ◌∙◌, ltb, lt-ltb, le-ltb, if◌then◌else◌, cond}
 use Rattle.inline.specs.declared.judge.Judged.{Judged}
 use Rattle.inline.specs.Tree.{Range}
-use Rattle.inline.specs.Frames.{any_in, first_off}
+use Rattle.inline.specs.Frames.{any_in, first_off, frame}
 use Rattle.inline.specs.Head.{
   Ranges,
   all,
@@ -70,9 +70,7 @@ module _ (s : List ℕ) (start : ℕ) (o : Bool) (at : ℕ) where
         base = start;
         inside = o;
         kids = kids;
-        name = name;
-        file = file;
-        line = line;
+        frame = frame name file line;
       }) ≡ end_of start o (tail_at s at)
   unfolding end_of
   end_whole kids name file line next l e = near file _ l ∙ ap (end_of start o) e

@@ -5,7 +5,6 @@ pub mod Spans
 pub mod Judging
 pub mod Progress
 pub mod Skips
-pub mod Stores
 pub mod Walks
 pub mod Blocks
 pub mod Passing
@@ -14,7 +13,6 @@ pub mod Conditions
 pub mod Says
 pub mod Demand
 pub mod Fuel
-pub mod Answers
 pub mod MoreRoom
 pub mod ByPathsOrder
 pub mod ByPathsTests
@@ -23,4 +21,10 @@ pub mod ByPathsStep
 pub mod ByPaths
 pub mod ByPathsFits
 pub mod DemandByPaths
-pub mod CallLines
+pub mod Steps
+pub mod StepsWalk
+pub mod StepsOrder
+pub mod Names
+pub mod FirstFault
+pub mod Told
+pub mod FaultNumbers

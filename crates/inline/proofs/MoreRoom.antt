@@ -1,7 +1,7 @@
 -- More room changes nothing but 14: a block that is read with less room either has more frames than that, or gives what
 -- it gives with more.
 -- Assumes nothing.
-use Rattle.std.proofs.Common.{Result, ℕ, zero, suc, ◌+◌, ◌≤◌, Bool, true, false, List, [], ◌++◌, ◌⊎◌, inl, inr, ⊎_elim, ◌≡◌, refl, sym, ap, subst, ltb, eqb, length, arith, le-ltb, ltb-false, if◌then◌else◌}
+use Rattle.std.proofs.Common.{Err, Result, ℕ, zero, suc, ◌+◌, ◌≤◌, Bool, true, false, List, [], ◌++◌, ◌⊎◌, inl, inr, ⊎_elim, ◌≡◌, refl, sym, ap, subst, ltb, eqb, length, arith, le-ltb, ltb-false, if◌then◌else◌}
 use Rattle.inline.specs.declared.head.Fault.{Fault}
 use Rattle.types.specs.declared.InlineFrame.{InlineFrame}
 use Rattle.inline.specs.Head.{Raw, end, cut, part, late, node, raw_at}
@@ -17,7 +17,6 @@ use Rattle.inline.specs.Walk.{
   put,
   counted,
   put_frame,
-  frame_in,
   after_put,
   after_judged,
   after_seen,
@@ -25,7 +24,8 @@ use Rattle.inline.specs.Walk.{
   walk_list,
   walk_node,
 }
-use Rattle.inline.specs.Block.{refused, fault_no, block_from, block_of}
+use Rattle.types.specs.declared.Refusal.TheVariants.{TooManyFrames}
+use Rattle.inline.specs.Block.{block_from, block_of}
 use Rattle.inline.specs.declared.head.Fault.TheVariants as fault
 use Rattle.inline.specs.declared.judge.Ctx.{Ctx}
 use Rattle.inline.specs.declared.judge.Judged.{Judged}
@@ -107,7 +107,7 @@ module _ (room more : ℕ) (l : room ≤ more) where
         (reads (ctx (level + 1) addr i.base more))
         (h (level + 1) addr i.base)
         i _ _
-        (put-room level addr base (frame_in i) acc))
+        (put-room level addr base i.frame acc))
         (inr refl)
 
   -- a head is judged without the room
@@ -153,9 +153,9 @@ module _ (room more : ℕ) (l : room ≤ more) where
   -- a block
   pub block_more :
       (symbol addr : ℕ) (bytes : List ℕ) →
-      (block_of symbol addr room bytes ≡ refused 14)
+      (block_of symbol addr room bytes ≡ Err TooManyFrames)
       ⊎ (block_of symbol addr room bytes ≡ block_of symbol addr more bytes)
-  unfolding block_of block_from fault_no
+  unfolding block_of block_from
   block_more symbol addr bytes =
       ⊎_elim
       (λ (e : walk_node (length bytes) bytes (ctx 1 addr symbol room) 0 [] ≡ bad fault.Room). inl (ap block_from e))

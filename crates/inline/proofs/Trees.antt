@@ -209,9 +209,7 @@ module _ (f : ℕ) (s : List ℕ)
     base = child_base c.base v.self;
     inside = w;
     kids = v.kids;
-    name = v.self.name;
-    file = v.self.file;
-    line = v.self.line;
+    frame = frame_of v.self;
   }
 
   opened-is :

@@ -23,9 +23,17 @@ first_off (r ∷ rs) = r.off
 abbrev pub child_base : ℕ → Node → ℕ
 child_base base n = base + first_off n.ranges
 
+-- a frame by its three numbers
+abbrev pub frame : (name file line : ℕ) → InlineFrame
+frame name file line = record {
+  name = record { 0 = name };
+  call_file = record { 0 = file };
+  call_line = record { 0 = line };
+}
+
 -- a node as a frame
 abbrev pub frame_of : Node → InlineFrame
-frame_of n = record { name = record { 0 = n.name }; call_file = record { 0 = n.file }; call_line = record { 0 = n.line } }
+frame_of n = frame n.name n.file n.line
 
 -- its own frame: none where its name is 0
 abbrev pub named : Node → List InlineFrame

@@ -5,7 +5,7 @@
 -- Assumes nothing.
 use Rattle.std.specs.Prelude.{Ok, Err, Result, ℕ, ◌+◌, List, Bool, ltb, if◌then◌else◌}
 use Rattle.inline.specs.Tree.{Range}
-use Rattle.inline.specs.Frames.{in_range, any_in, first_off, child_base}
+use Rattle.inline.specs.Frames.{in_range, any_in, first_off, child_base, frame, frame_of}
 use Rattle.inline.specs.Fits.{most_file, too_large, any_large}
 use Rattle.inline.specs.Head.{
   One,
@@ -51,9 +51,7 @@ judged_of c w = record {
   base = child_base c.base w.self;
   inside = any_in c.addr c.base w.self.ranges;
   kids = w.kids;
-  name = w.self.name;
-  file = w.self.file;
-  line = w.self.line;
+  frame = frame_of w.self;
 }
 
 unfoldable pub seen_of : Ctx → Raw → Seen
@@ -97,9 +95,7 @@ end_of start inside (tail.Whole t) =
       base = start;
       inside = inside;
       kids = t.kids;
-      name = t.name;
-      file = t.file;
-      line = t.line;
+      frame = frame t.name t.file t.line;
     }))
 
 -- what follows the range count: the level, the ranges, and what follows them

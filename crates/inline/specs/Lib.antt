@@ -6,10 +6,13 @@ pub mod Tail
 pub mod Head
 pub mod Judge
 pub mod Skip
-pub mod Store
 pub mod Walk
 pub mod Block
 pub mod Torn
 pub mod Said
 pub mod Reads
+pub mod ListsFrames
+pub mod Steps
+pub mod FirstFault
 pub mod Examples
+pub mod FaultExamples

@@ -7,10 +7,8 @@ use Rattle.std.specs.Prelude.{if◌then◌else◌}
 use Rattle.std.specs.Prelude.{
   Ok,
   Err,
-  Some,
-  None,
-  Option,
   Result,
+  IfErr,
   ℕ,
   zero,
   suc,
@@ -29,8 +27,7 @@ use Rattle.std.specs.Prelude.{
 }
 use Rattle.types.specs.declared.InlineFrame.{InlineFrame}
 use Rattle.inline.specs.Judge.{seen_at}
-use Rattle.inline.specs.Skip.{skip_list}
-use Rattle.inline.specs.Store.{frame, frames_in}
+use Rattle.inline.specs.Skip.{skip_list, over_kids, StepGoes, PassedGoes}
 use Rattle.leb128.specs.declared.Cause.TheVariants as cause
 use Rattle.inline.specs.declared.head.Fault.{Fault}
 use Rattle.inline.specs.declared.head.Fault.TheVariants as fault
@@ -38,8 +35,8 @@ use Rattle.inline.specs.declared.judge.Ctx.{Ctx}
 use Rattle.inline.specs.declared.judge.Judged.{Judged}
 use Rattle.inline.specs.declared.judge.Seen.{Seen}
 use Rattle.inline.specs.declared.judge.Seen.TheVariants as seen
-use Rattle.inline.specs.declared.walk.Walk.{Walk}
-use Rattle.inline.specs.declared.walk.Walk.TheVariants as walk
+use Rattle.inline.specs.declared.skipping.Step.{Step}
+use Rattle.inline.specs.declared.skipping.Step.TheVariants as step
 
 -- what reading comes to: the list's end, or past a node, each with the frames so far; or a fault
 pub data Out : Type 0 where
@@ -60,10 +57,6 @@ counted f = if eqb f.name.0 0 then [] else f ∷ []
 unfoldable pub put_frame : Ctx → InlineFrame → List InlineFrame → Put
 put_frame c f acc = if ltb c.room (length (acc ++ counted f)) then full else put (acc ++ counted f)
 
--- the frame of a judged node
-abbrev pub frame_in : Judged → InlineFrame
-frame_in i = frame i.name i.file i.line
-
 -- one level down, with offsets that count from `base`
 abbrev pub below : Ctx → ℕ → Ctx
 below c base = record { level = c.level + 1; addr = c.addr; base = base; room = c.room }
@@ -83,7 +76,7 @@ unfoldable pub after_judged :
     (Ctx → ℕ → List InlineFrame → Out) → (ℕ → Result ℕ Fault) → Ctx → List InlineFrame → Judged → Out
 after_judged reads skips c acc i =
     if i.inside
-    then after_put (reads (below c i.base)) i (put_frame c (frame_in i) acc)
+    then after_put (reads (below c i.base)) i (put_frame c i.frame acc)
     else if eqb i.kids 0 then past i.next acc else after_skip acc (skips i.next)
 
 unfoldable pub after_seen :
@@ -109,34 +102,29 @@ walk_list (suc fuel) s c at acc =
 unfoldable pub walk_node : ℕ → List ℕ → Ctx → ℕ → List InlineFrame → Out
 walk_node fuel s c at acc = after_seen (walk_list fuel s) (skip_list fuel s (c.level + 1)) c acc (seen_at s c at)
 
--- ---- what `push`, `node` and `children` answer; of a fault nothing is said of the store
+-- ---- what `push`, `node` and `children` answer, with the frames before and after; there are never more than room
 
-abbrev pub view_held : Option ℕ → List ℕ → Put
-view_held None ys = full
-view_held (Some count) ys = put (frames_in count ys)
+-- of the frames after a refusal nothing is said
+abbrev pub put_in : Result Unit Fault → List InlineFrame → Put
+put_in (Ok _) ys = put ys
+put_in (Err _) ys = full
 
-abbrev pub HeldGoes : ℕ → Option ℕ → Type 0
-HeldGoes room None = Unit {0}
-HeldGoes room (Some count) = count ≤ room
+pub record Pushed (c : Ctx) (f : InlineFrame) (xs ys : List InlineFrame) (r : Result Unit Fault) : Type 0 where
+  pub fits : length ys ≤ c.room
+  pub cause : IfErr r (λ k. k ≡ fault.Room)
+  pub same : put_in r ys ≡ put_frame c f xs
 
-pub record Pushed (c : Ctx) (f : InlineFrame) (xs : List ℕ) (count : ℕ) (ys : List ℕ) (r : Option ℕ) : Type 0 where
-  pub goes : HeldGoes c.room r
-  pub same : view_held r ys ≡ put_frame c f (frames_in count xs)
+abbrev pub view : Step → List InlineFrame → Out
+view (step.End n) ys = ended n ys
+view (step.Past n) ys = past n ys
+view (step.Bad f) ys = bad f
 
-abbrev pub view : Walk → List ℕ → Out
-view (walk.End n count) ys = ended n (frames_in count ys)
-view (walk.Past n count) ys = past n (frames_in count ys)
-view (walk.Bad f) ys = bad f
+pub record Walked (s : List ℕ) (c : Ctx) (at : ℕ) (xs ys : List InlineFrame) (r : Step) : Type 0 where
+  pub goes : StepGoes at (length s) r
+  pub fits : length ys ≤ c.room
+  pub says : (fuel : ℕ) → length s - at ≤ fuel → view r ys ≡ walk_node fuel s c at xs
 
-abbrev pub WalkGoes : ℕ → ℕ → ℕ → Walk → Type 0
-WalkGoes at len room (walk.End n count) = (at < n) × (n ≤ len) × (count ≤ room)
-WalkGoes at len room (walk.Past n count) = (at < n) × (n ≤ len) × (count ≤ room)
-WalkGoes at len room (walk.Bad f) = Unit {0}
-
-pub record Walked (s : List ℕ) (c : Ctx) (at : ℕ) (xs : List ℕ) (count : ℕ) (ys : List ℕ) (r : Walk) : Type 0 where
-  pub goes : WalkGoes at (length s) c.room r
-  pub says : (fuel : ℕ) → length s - at ≤ fuel → view r ys ≡ walk_node fuel s c at (frames_in count xs)
-
-pub record WalkedAll (s : List ℕ) (c : Ctx) (at : ℕ) (xs : List ℕ) (count : ℕ) (ys : List ℕ) (r : Walk) : Type 0 where
-  pub goes : WalkGoes at (length s) c.room r
-  pub says : (fuel : ℕ) → length s - at < fuel → view r ys ≡ walk_list fuel s c at (frames_in count xs)
+pub record WalkedAll (s : List ℕ) (c : Ctx) (at : ℕ) (xs ys : List InlineFrame) (r : Result ℕ Fault) : Type 0 where
+  pub goes : PassedGoes at (length s) r
+  pub fits : length ys ≤ c.room
+  pub says : (fuel : ℕ) → length s - at < fuel → view (over_kids r) ys ≡ walk_list fuel s c at xs

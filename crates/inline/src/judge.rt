@@ -6,6 +6,7 @@ ghost use Rattle.inline.specs.Judge.{span_of, spans_of, end_of, node_of, seen_at
 
 use super::head::{Fault, capped};
 use leb128::{Cause, unsigned_at};
+use types::{FileIndex, InlineFrame, LineNumber, StrOffset};
 
 // The largest call file.
 const CALL_FILE_MAX: u64 = 0xffff_ffff;
@@ -21,16 +22,14 @@ pub(crate) struct Ctx {
 }
 
 // A node without a fault: the place after its head, where its children's offsets count from, whether it contains the
-// address, its children byte, name, call file and call line.
+// address, its children byte, and the frame that it is if it is open.
 #[derive(Clone, Copy)]
 pub(crate) struct Judged {
     pub next: usize,
     pub base: u64,
     pub inside: bool,
     pub kids: u8,
-    pub name: u32,
-    pub file: u32,
-    pub line: u32,
+    pub frame: InlineFrame,
 }
 
 // End: a range count of 0 ends the list, and the place after it.
@@ -96,9 +95,11 @@ fn judge_tail(s: &[u8], start: u64, inside: bool, at: usize) -> Result<Judged, F
         base: start,
         inside,
         kids,
-        name,
-        file: file as u32,
-        line: capped(line),
+        frame: InlineFrame {
+            name: StrOffset(name),
+            call_file: FileIndex(file as u32),
+            call_line: LineNumber(capped(line)),
+        },
     })
 }
 

@@ -1,94 +1,84 @@
 // The judging walk: a node reader and a child-list reader that call each other, with fewer bytes left each time round
-// (RULES, "Inline tree"). Frames go to the front of a lent list of numbers.
-ghost use Rattle.std.specs.Prelude.{◌*◌, ◌≤◌, length};
-ghost use Rattle.inline.specs.Walk.{frame_in, Pushed, Walked, WalkedAll};
+// (RULES, "Inline tree"). Both add the frames that they come to.
+ghost use Rattle.std.specs.Prelude.{◌≡◌, ◌≤◌, length};
+ghost use Rattle.inline.specs.Skip.{over_kids};
+ghost use Rattle.inline.specs.Walk.{Pushed, Walked, WalkedAll};
 
+use super::Frames;
 use super::head::Fault;
-use super::judge::{Ctx, Judged, Seen, judge_at};
-use super::skipping::skip_all;
+use super::judge::{Ctx, Seen, judge_at};
+use super::skipping::{Step, skip_all};
+use types::InlineFrame;
 
-// A frame takes three numbers of the store: name, call file, call line.
-pub(crate) const FRAME_WIDTH: usize = 3;
-
-// What reading judged nodes comes to: the list's end, or past a node and all below it, each with the place after it and
-// how many frames there are.
-#[derive(Clone, Copy)]
-pub(crate) enum Walk {
-    End(usize, usize),
-    Past(usize, usize),
-    Bad(Fault),
-}
-
-// Makes the frame of an open node, after the `count` frames there are: how many there are then, if there is room. A name
-// of 0 makes none.
-fn push(ctx: Ctx, node: Judged, store: &mut [u32], count: usize) -> Option<usize>
-    requires { (count ≤ ctx.room) × (3 * ctx.room ≤ length store.old) }
-    ensures { Pushed ctx (frame_in node) store.old count store.new result }
+// Adds the frame of an open node, if there is room for it. A name of 0 makes none.
+fn push(ctx: Ctx, frame: InlineFrame, frames: &mut Frames) -> Result<(), Fault>
+    requires { (length frames.old.items ≤ ctx.room) × (ctx.room ≤ 64) }
+    ensures { Pushed ctx frame frames.old.items frames.new.items result }
 {
-    if node.name == 0 {
-        return Some(count);
+    if frame.name.0 == 0 {
+        return Ok(());
     }
-    if ctx.room <= count {
-        return None;
+    if ctx.room <= frames.len() {
+        return Err(Fault::Room);
     }
-    let place = FRAME_WIDTH * count;
-    store[place] = node.name;
-    store[place + 1] = node.file;
-    store[place + 2] = node.line;
-    Some(count + 1)
+    frames.push(frame);
+    Ok(())
 }
 
-// Reads the judged node at `at` and all below it. The store has room for the frames that `ctx` allows.
+// Past a list of nodes, where a node was asked for.
+fn past(list: Result<usize, Fault>) -> Step
+    ensures { result ≡ over_kids list }
+{
+    match list {
+        Ok(next) => Step::Past(next),
+        Err(fault) => Step::Bad(fault),
+    }
+}
+
+// Reads the judged node at `at` and all below it. There are no more frames than `ctx` allows.
 #[cycle(children_node)]
-pub(crate) fn node(s: &[u8], ctx: Ctx, at: usize, store: &mut [u32], count: usize) -> Walk
-    requires { (count ≤ ctx.room) × (3 * ctx.room ≤ length store.old) }
-    ensures { Walked s.now ctx at store.old count store.new result }
+pub(crate) fn node(s: &[u8], ctx: Ctx, at: usize, frames: &mut Frames) -> Step
+    requires { (length frames.old.items ≤ ctx.room) × (ctx.room ≤ 64) }
+    ensures { Walked s.now ctx at frames.old.items frames.new.items result }
 {
     match judge_at(s, ctx, at) {
-        Seen::End(n) => Walk::End(n, count),
-        Seen::Bad(f) => Walk::Bad(f),
-        Seen::Node(i) => {
-            if !i.inside {
-                if i.kids == 0 {
-                    return Walk::Past(i.next, count);
+        Seen::End(next) => Step::End(next),
+        Seen::Bad(fault) => Step::Bad(fault),
+        Seen::Node(node) => {
+            if !node.inside {
+                if node.kids == 0 {
+                    return Step::Past(node.next);
                 }
-                return match skip_all(s, ctx.level + 1, i.next) {
-                    Ok(n) => Walk::Past(n, count),
-                    Err(f) => Walk::Bad(f),
-                };
+                return past(skip_all(s, ctx.level + 1, node.next));
             }
-            let Some(c) = push(ctx, i, store, count) else {
-                return Walk::Bad(Fault::Room);
-            };
-            if i.kids == 0 {
-                return Walk::Past(i.next, c);
+            if let Err(fault) = push(ctx, node.frame, frames) {
+                return Step::Bad(fault);
+            }
+            if node.kids == 0 {
+                return Step::Past(node.next);
             }
             let down = Ctx {
                 level: ctx.level + 1,
-                base: i.base,
+                base: node.base,
                 ..ctx
             };
-            children(s, down, i.next, store, c)
+            past(children(s, down, node.next, frames))
         }
     }
 }
 
-// Reads the list of judged nodes at `at`, up to its end.
+// Reads the list of judged nodes at `at`, up to its end: the place after it.
 #[cycle(children_node)]
-pub(crate) fn children(s: &[u8], ctx: Ctx, at: usize, store: &mut [u32], count: usize) -> Walk
-    requires { (count ≤ ctx.room) × (3 * ctx.room ≤ length store.old) }
-    ensures { WalkedAll s.now ctx at store.old count store.new result }
+pub(crate) fn children(s: &[u8], ctx: Ctx, at: usize, frames: &mut Frames) -> Result<usize, Fault>
+    requires { (length frames.old.items ≤ ctx.room) × (ctx.room ≤ 64) }
+    ensures { WalkedAll s.now ctx at frames.old.items frames.new.items result }
 {
     let mut to = at;
-    let mut held = count;
     loop {
-        match node(s, ctx, to, store, held) {
-            Walk::End(n, c) => return Walk::Past(n, c),
-            Walk::Past(n, c) => {
-                to = n;
-                held = c;
-            }
-            Walk::Bad(f) => return Walk::Bad(f),
+        match node(s, ctx, to, frames) {
+            Step::End(next) => return Ok(next),
+            Step::Past(next) => to = next,
+            Step::Bad(fault) => return Err(fault),
         }
     }
 }

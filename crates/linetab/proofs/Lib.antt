@@ -1,4 +1,3 @@
-mod Headers
 mod Opcodes
 mod Factor
 mod Quickly

@@ -2,6 +2,7 @@
 -- Assumes nothing.
 use Rattle.std.proofs.Common.{◌≡◌, ℕ, zero, suc, ◌+◌, ◌<◌, ◌≤◌, Bool, true, false, eqb, List, length, get_or, ℤ, pos, negsuc, refl, ap, subst, ⊎_elim, arith, le-ltb, lt-ltb, Ok, Err, Result, if◌then◌else◌}
 use Rattle.std.proofs.lemmas.Bool.{cases_lt}
+use Rattle.reads.proofs.Steps.{bind_ok, ok_is}
 use Rattle.leb128.specs.Answers.{unsigned_at, signed_at}
 use Rattle.leb128.specs.declared.Cause.{Cause}
 use Rattle.leb128.proofs.Taken.{unsigned-next, signed-next}
@@ -12,9 +13,6 @@ use Rattle.linetab.specs.declared.RunResult.{RunResult}
 use Rattle.linetab.specs.declared.RunResult.TheVariants as run
 use Rattle.linetab.specs.declared.RunResult.TheVariants.{NewRow, End, Stopped, UsedUp}
 use Rattle.linetab.specs.Machine.{
-  header_with_first,
-  header_with_max,
-  header_with_min,
   header_of,
   set_file,
   advance_pc,
@@ -110,42 +108,15 @@ module _ (h : LineTableHeader) (ops : List ℕ) where
 
 -- ---- the header
 
--- the place after a header that reads
-abbrev place : Result (LineTableHeader × ℕ) Cause → ℕ
-place (Ok (h, n)) = n
-place (Err c) = 0
-
-module _ (s : List ℕ) (h : LineTableHeader) (n : ℕ) where
-  first_next :
-      (at : ℕ) (min max : ℤ) (x : Result (ℕ × ℕ) Cause) → ((v m : ℕ) → x ≡ Ok (v, m) → Onward at (length s) m) →
-      header_with_first min max x ≡ Ok (h, n) → Onward at (length s) n
-  unfolding header_with_first
-  first_next at min max (Ok (v, m)) p e =
-      let q : m ≡ n = ap place e in
-      let o = p v m refl in
-      (omega arith, omega arith)
-  first_next at min max (Err d) p e = never (cc)
-
-  max-next :
-      (at : ℕ) (min : ℤ) (x : Result (ℤ × ℕ) Cause) → ((v : ℤ) (m : ℕ) → x ≡ Ok (v, m) → Onward at (length s) m) →
-      header_with_max s min x ≡ Ok (h, n) → Onward at (length s) n
-  unfolding header_with_max
-  max-next at min (Ok (v, m)) p e =
-      let o = p v m refl in
-      let f = first_next m min v (unsigned_at s m) (unsigned-next s m) e in
-      (omega arith, f.1)
-  max-next at min (Err d) p e = never (cc)
-
-  min-next :
-      (at : ℕ) (x : Result (ℤ × ℕ) Cause) → ((v : ℤ) (m : ℕ) → x ≡ Ok (v, m) → Onward at (length s) m) →
-      header_with_min s x ≡ Ok (h, n) → Onward at (length s) n
-  unfolding header_with_min
-  min-next at (Ok (v, m)) p e =
-      let o = p v m refl in
-      let f = max-next m v (signed_at s m) (signed-next s m) e in
-      (omega arith, f.1)
-  min-next at (Err d) p e = never (cc)
-
-  pub header-next : (at : ℕ) → header_of s at ≡ Ok (h, n) → Onward at (length s) n
-  unfolding header_of
-  header-next at e = min-next at (signed_at s at) (signed-next s at) e
+pub header-next :
+    (s : List ℕ) (h : LineTableHeader) (n at : ℕ) → header_of s at ≡ Ok (h, n) → Onward at (length s) n
+unfolding header_of
+header-next s h n at e =
+    let min = bind_ok (signed_at s at) _ (h, n) e in
+    let max = bind_ok (signed_at s min.0.1) _ (h, n) min.2 in
+    let line = bind_ok (unsigned_at s max.0.1) _ (h, n) max.2 in
+    let a = signed-next s at _ _ min.1 in
+    let b = signed-next s _ _ _ max.1 in
+    let c = unsigned-next s _ _ _ line.1 in
+    let ends : line.0.1 ≡ n = ap (λ p. p.1) (ok_is _ _ line.2) in
+    (omega arith, omega arith)

@@ -4,6 +4,8 @@ use Rattle.std.proofs.Common.{ℕ, zero, suc, ◌-◌, ◌^◌, ◌<◌, Bool, t
 use lib.Signed.{rem_z}
 use Rattle.int64.specs.Wrap.{wrap}
 use Rattle.int64.proofs.Wraps.{mod_z-lt}
+use Rattle.reads.specs.Steps.{◌>>=◌}
+use Rattle.reads.proofs.Steps.{through}
 use Rattle.types.specs.declared.Address.{Address}
 use Rattle.leb128.specs.Answers.{unsigned_at, signed_at}
 use Rattle.leb128.specs.declared.Cause.{Cause}
@@ -13,10 +15,10 @@ use Rattle.linetab.specs.declared.LineState.{LineState}
 use Rattle.linetab.specs.declared.RunResult.{RunResult}
 use Rattle.linetab.specs.declared.RunResult.TheVariants as run
 use Rattle.linetab.specs.declared.RunResult.TheVariants.{NewRow, End, Stopped, UsedUp}
-use Rattle.linetab.specs.Machine.{header_with_first, header_with_max, header_with_min, header_of, start_row, set_file}
+use Rattle.linetab.specs.Machine.{header_of, start_row, set_file}
 use Rattle.linetab.specs.Machine.{advance_pc}
 use Rattle.linetab.specs.Machine.{advance_line, range_of, moved, unless_zero, special_of, opcode, step_of}
-use Rattle.linetab.specs.Rows.{at_end, after, within, row_from, row_for, behind, line_row}
+use Rattle.linetab.specs.Rows.{at_end, after, within, row_from, row_for, line_row}
 
 -- ---- what is below 2^32
 
@@ -50,24 +52,12 @@ picked P false x y p q = q
 
 -- ---- the header
 
-with_first : (min max : ℤ) (x : Result (ℕ × ℕ) Cause) → HeaderSmall (header_with_first min max x)
-unfolding header_with_first
-with_first min max (Ok (v, n)) = omega arith
-with_first min max (Err c) = tt
-
-with_max : (s : List ℕ) (min : ℤ) (x : Result (ℤ × ℕ) Cause) → HeaderSmall (header_with_max s min x)
-unfolding header_with_max
-with_max s min (Ok (max, n)) = with_first min max (unsigned_at s n)
-with_max s min (Err c) = tt
-
-with_min : (s : List ℕ) (x : Result (ℤ × ℕ) Cause) → HeaderSmall (header_with_min s x)
-unfolding header_with_min
-with_min s (Ok (min, n)) = with_max s min (signed_at s n)
-with_min s (Err c) = tt
-
 header-small : (s : List ℕ) (at : ℕ) → HeaderSmall (header_of s at)
 unfolding header_of
-header-small s at = with_min s (signed_at s at)
+header-small s at =
+    through HeaderSmall (signed_at s at) _ (λ c d. tt)
+    (λ min e. through HeaderSmall (signed_at s min.1) _ (λ c d. tt)
+    (λ max f. through HeaderSmall (unsigned_at s max.1) _ (λ c d. tt) (λ line g. omega arith)))
 
 -- ---- one opcode
 
@@ -143,16 +133,14 @@ read_small : (x : Option LineTableRow) → FoundSmall x → ReadSmall (Ok x)
 read_small (Some r) l = l
 read_small None l = tt
 
-behind-small :
-    (s : List ℕ) (symbol addr : Address) (x : Result (LineTableHeader × ℕ) Cause) → HeaderSmall x →
-    ReadSmall (behind s symbol addr x)
-unfolding row_for row_from
-behind-small s symbol addr (Ok (h, n)) l =
-    let t : LineState = record { row = start_row h symbol; at = n } in
-    read_small (within (suc (length s - n)) h s addr None t)
-    (within-small (suc (length s - n)) h s addr None t tt l)
-behind-small s symbol addr (Err c) l = tt
-
 pub line-row-small : (s : List ℕ) (symbol addr : Address) → ReadSmall (line_row s symbol addr)
-unfolding line_row
-line-row-small s symbol addr = behind-small s symbol addr (header_of s 0) (header-small s 0)
+unfolding line_row row_for row_from
+line-row-small s symbol addr = go (header_of s 0) (header-small s 0)
+  where
+    go : (x : Result (LineTableHeader × ℕ) Cause) → HeaderSmall x →
+        ReadSmall (x >>= λ p. Ok (row_for p.0 s (record { row = start_row p.0 symbol; at = p.1 }) addr))
+    go (Ok (h, n)) l =
+        let t : LineState = record { row = start_row h symbol; at = n } in
+        read_small (within (suc (length s - n)) h s addr None t)
+        (within-small (suc (length s - n)) h s addr None t tt l)
+    go (Err c) l = tt

@@ -10,6 +10,7 @@
 --
 -- Assumes nothing.
 use Rattle.std.specs.Prelude.{ℕ, zero, suc, ◌+◌, ◌-◌, ◌%◌, ◌^◌, List, length, ℤ, pos, negsuc, ◌+ℤ◌, ◌-ℤ◌, ◌==◌, int_div, int_rem, nat_lt, slice_index, Ok, Err, Result, if◌then◌else◌}
+use Rattle.reads.specs.Steps.{◌>>=◌}
 use Rattle.types.specs.declared.Address.{Address}
 use Rattle.int64.specs.Wrap.{mod_z, wrap}
 use Rattle.leb128.specs.Answers.{unsigned_at, signed_at}
@@ -21,25 +22,13 @@ use Rattle.linetab.specs.declared.RunResult.{RunResult}
 use Rattle.linetab.specs.declared.RunResult.TheVariants as run
 use Rattle.linetab.specs.declared.RunResult.TheVariants.{NewRow, End, Stopped, UsedUp}
 
--- the header with min and max known, by what is read for its first line
-unfoldable pub header_with_first : ℤ → ℤ → Result (ℕ × ℕ) Cause → Result (LineTableHeader × ℕ) Cause
-header_with_first min max (Ok (v, n)) =
-    Ok (record { min_delta = min; max_delta = max; first_line = record { 0 = v % 2 ^ 32 } }, n)
-header_with_first min max (Err c) = Err c
-
--- the header with min known, by what is read for max
-unfoldable pub header_with_max : List ℕ → ℤ → Result (ℤ × ℕ) Cause → Result (LineTableHeader × ℕ) Cause
-header_with_max s min (Ok (max, n)) = header_with_first min max (unsigned_at s n)
-header_with_max s min (Err c) = Err c
-
--- the header, by what is read for min
-unfoldable pub header_with_min : List ℕ → Result (ℤ × ℕ) Cause → Result (LineTableHeader × ℕ) Cause
-header_with_min s (Ok (min, n)) = header_with_max s min (signed_at s n)
-header_with_min s (Err c) = Err c
-
 -- the header at a place, and the place after it; the first number that doesn't read decides
 unfoldable pub header_of : List ℕ → ℕ → Result (LineTableHeader × ℕ) Cause
-header_of s at = header_with_min s (signed_at s at)
+header_of s at = do
+  (min, max_at) ← signed_at s at
+  (max, line_at) ← signed_at s max_at
+  (line, next) ← unsigned_at s line_at
+  Ok (record { min_delta = min; max_delta = max; first_line = record { 0 = line % 2 ^ 32 } }, next)
 
 -- the state before the first opcode: the symbol's address, file 1, the first line
 abbrev pub start_row : LineTableHeader → Address → LineTableRow

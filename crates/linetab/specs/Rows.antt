@@ -1,7 +1,8 @@
 -- The row of an address in a line program (RULES, "Line table"): the program runs until a row lies above the
 -- address, and the row before that one is the answer.
 -- Assumes nothing.
-use Rattle.std.specs.Prelude.{ℕ, zero, suc, ◌-◌, List, length, nat_lt, Some, None, Option, Ok, Err, Result, if◌then◌else◌}
+use Rattle.std.specs.Prelude.{ℕ, zero, suc, ◌-◌, List, length, nat_lt, Some, None, Option, Ok, Result, if◌then◌else◌}
+use Rattle.reads.specs.Steps.{◌>>=◌}
 use Rattle.types.specs.declared.Address.{Address}
 use Rattle.leb128.specs.declared.Cause.{Cause}
 use Rattle.linetab.specs.declared.LineTableHeader.{LineTableHeader}
@@ -41,12 +42,8 @@ row_from h ops addr before t = within (suc (length ops - t.at)) h ops addr befor
 unfoldable pub row_for : LineTableHeader → List ℕ → LineState → Address → Option LineTableRow
 row_for h ops t addr = row_from h ops addr None t
 
--- the row of an address in a program, by what is read for the header
-abbrev pub behind :
-    List ℕ → Address → Address → Result (LineTableHeader × ℕ) Cause → Result (Option LineTableRow) Cause
-behind s symbol addr (Ok (h, n)) = Ok (row_for h s (record { row = start_row h symbol; at = n }) addr)
-behind s symbol addr (Err c) = Err c
-
 -- the row of an address in a whole table: the header at 0, and the program behind it
 unfoldable pub line_row : List ℕ → Address → Address → Result (Option LineTableRow) Cause
-line_row s symbol addr = behind s symbol addr (header_of s 0)
+line_row s symbol addr = do
+  (h, n) ← header_of s 0
+  Ok (row_for h s (record { row = start_row h symbol; at = n }) addr)

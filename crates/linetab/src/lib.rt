@@ -68,6 +68,7 @@ pub enum RunResult {
 
 // The header at `at` and the place after it. Short: a number's bytes end before it does. Wide: a number is too wide.
 // The first number that doesn't read decides. The first line is kept modulo 2^32.
+#[tactic(auto, unfolding(crate::specs::Machine::header_of))]
 pub fn parse(block: &[u8], at: usize) -> Result<(LineTableHeader, usize), Cause>
     ensures { result ≡ header_of block.now at }
 {
@@ -176,6 +177,7 @@ fn row_by_op(
 
 // The row of `addr` in a whole table: the header at 0, and the program behind it. None where no row covers `addr`; the
 // cause where the header doesn't read.
+#[tactic(auto, unfolding(crate::specs::Rows::line_row))]
 pub fn line_row(block: &[u8], symbol: Address, addr: Address) -> Result<Option<LineTableRow>, Cause>
     ensures { result ≡ line_row block.now symbol addr }
 {

@@ -1,7 +1,7 @@
 // What is asked, and what the reader answers, as numbers.
-use std::alloc::{AllocError, Global};
+use arrayvec::ArrayVec;
 use std::fmt;
-use types::{Address, Answer, Options};
+use types::{Address, Answer, Frame, Options};
 
 // How many numbers an answer and each of its records have on a line.
 pub const ANSWER_LEN: usize = 12;
@@ -20,8 +20,7 @@ pub struct Question {
 #[derive(Drop)]
 pub struct Answered {
     pub numbers: [u64; ANSWER_LEN],
-    count: usize,
-    list: Vec<u64>,
+    list: ArrayVec<Frame, 64>,
     // without inlining: the call that takes no list answers the same, and the list is as it was
     pub agrees_without_list: bool,
 }
@@ -44,47 +43,70 @@ fn numbers_of(answer: Answer) -> [u64; ANSWER_LEN] {
 }
 
 impl Question {
-    pub fn ask(self, alloc: Global, file: &[u8]) -> Result<Answered, AllocError> {
+    pub fn ask(self, file: &[u8]) -> Answered {
         let Question {
             addr,
             options,
             room,
         } = self;
-        let mut list = vec![in alloc; 0; RECORD_LEN * room.min(types::MAX_FRAMES)]?;
-        let answer = resolver::lookup_in(file, addr, options, &mut list);
+        let mut list: ArrayVec<Frame, 64> = ArrayVec::new();
+        let answer = resolver::lookup_in(
+            file,
+            addr,
+            options,
+            room.min(types::MAX_FRAMES),
+            &mut list,
+        );
         let numbers = numbers_of(answer);
         let agrees_without_list = options.inlining
             || numbers == numbers_of(resolver::lookup_plain(file, addr, options.code_info))
-                && list.iter().all(|x| *x == 0);
-        Ok(Answered {
+                && list.is_empty();
+        Answered {
             numbers,
-            count: answer.count,
             list,
             agrees_without_list,
-        })
+        }
     }
 }
 
 impl Answered {
     // The numbers of a record of the list, none past its end.
-    pub fn record(&self, index: usize) -> Words<'_> {
-        Words(self.list.chunks_exact(RECORD_LEN).nth(index).unwrap_or(&[]))
+    pub fn record(&self, index: usize) -> Option<[u64; RECORD_LEN]> {
+        let frame = self.list.as_slice().get(index)?;
+        Some(record_numbers(*frame))
     }
 
     // From 0 on, for each number behind the first and of the records: itself times 1,000,003, plus the number, plus 1,
     // modulo 2^64.
     pub fn digest(&self) -> u64 {
-        let records = self.list.chunks_exact(RECORD_LEN).take(self.count);
-        self.numbers[1..]
-            .iter()
-            .chain(records.flatten())
-            .fold(0u64, |digest, x| {
-                digest
-                    .wrapping_mul(1_000_003)
-                    .wrapping_add(*x)
-                    .wrapping_add(1)
-            })
+        let mut digest = digested(0, &self.numbers[1..]);
+        for frame in self.list.as_slice() {
+            digest = digested(digest, &record_numbers(*frame));
+        }
+        digest
     }
+}
+
+// A record's numbers in the order of a line.
+fn record_numbers(frame: Frame) -> [u64; RECORD_LEN] {
+    [
+        frame.name.place as u64,
+        frame.name.len as u64,
+        frame.dir.place as u64,
+        frame.dir.len as u64,
+        frame.file.place as u64,
+        frame.file.len as u64,
+        frame.line.0 as u64,
+    ]
+}
+
+fn digested(start: u64, numbers: &[u64]) -> u64 {
+    numbers.iter().fold(start, |digest, x| {
+        digest
+            .wrapping_mul(1_000_003)
+            .wrapping_add(*x)
+            .wrapping_add(1)
+    })
 }
 
 // Numbers in hexadecimal, a space before each.

@@ -1,5 +1,5 @@
 // The lines one after the other: each case, and the records that belong to it.
-use crate::answered::{Answered, RECORD_LEN};
+use crate::answered::{Answered, RECORD_LEN, Words};
 use crate::line::Line;
 use std::alloc::Global;
 use std::{fmt, io};
@@ -32,9 +32,13 @@ impl Case {
         expected: &[u64; RECORD_LEN],
     ) -> io::Result<()> {
         let record = self.answered.record(self.seen as usize);
-        let agrees = record.0 == expected.as_slice();
+        let numbers: &[u64] = match &record {
+            Some(numbers) => numbers,
+            None => &[],
+        };
+        let agrees = numbers == expected.as_slice();
         if !agrees {
-            println!(rt; "{line}\n  answered{record}")?;
+            println!(rt; "{line}\n  answered{}", Words(numbers))?;
         }
         self.agrees = self.agrees && agrees && self.seen < self.record_lines;
         self.seen = self.seen.saturating_add(1);
@@ -95,7 +99,7 @@ impl Replay {
         match parsed {
             Ok(Line::File(file)) => self.file = file,
             Ok(Line::Case(question, expected)) => {
-                let answered = question.ask(alloc, &self.file)?;
+                let answered = question.ask(&self.file);
                 let agrees = answered.agrees_without_list && expected.is_met_by(&answered);
                 if !agrees {
                     println!(rt; "{line}\n  answered{answered}")?;

@@ -33,12 +33,12 @@ module _ (s : List ℕ) (at : ℕ) where
   pair-past h = rw (lt-leb _ _ h)
 
   -- what was read lies within the bytes
-  pub pair-within : (a b : ℕ) → Some (a, b) ≡ pair_at s at → at + 8 ≤ length s
+  pub pair_within : (a b : ℕ) → pair_at s at ≡ Some (a, b) → at + 8 ≤ length s
   unfolding pair_at
-  pair-within a b e =
+  pair_within a b e =
       ⊎_elim
       (λ (l : length s - at < 8).
-      let f : ◌≡◌ {A = Option (ℕ × ℕ)} (Some (a, b)) None = simp (lt-leb _ _ l) at e in
+      let f : ◌≡◌ {A = Option (ℕ × ℕ)} None (Some (a, b)) = simp (lt-leb _ _ l) at e in
       let z : ◌≡◌ {A = ℕ} 0 1 = cc in never z)
       (λ (l : 8 ≤ length s - at). omega arith)
       (cases_lt (length s - at) 8)

@@ -1,5 +1,4 @@
 mod Fields
-mod Stages
 mod Halving
 mod Turns
 pub mod Places
@@ -9,3 +8,4 @@ pub mod Lands
 pub mod Said
 pub mod Symbols
 pub mod Steps
+mod Found

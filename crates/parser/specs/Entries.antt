@@ -7,7 +7,8 @@
 --   file table       per file:  directory 4, file name 4, offsets in the string table
 --
 -- Assumes nothing.
-use Rattle.std.specs.Prelude.{ℕ, ◌+◌, ◌-◌, ◌*◌, ◌%◌, ◌^◌, Bool, true, false, List, Option, Some, None, drop, ◌==◌, nat_lt, slice_index, if◌then◌else◌}
+use Rattle.std.specs.Prelude.{ℕ, ◌+◌, ◌-◌, ◌*◌, ◌%◌, ◌^◌, Bool, true, false, List, Option, Some, drop, ◌==◌, nat_lt, slice_index, if◌then◌else◌}
+use Rattle.reads.specs.Maybe.{◌>>=◌, ◌>>◌, need}
 use Rattle.reads.specs.Answers.{u32_at}
 use Rattle.types.specs.declared.Address.{Address}
 use Rattle.types.specs.declared.FileIndex.{FileIndex}
@@ -23,23 +24,21 @@ symbol_at file t i = record { 0 = (t.base.0 + slice_index (table_of file t) i) %
 
 -- the data offset of an entry
 unfoldable pub offset_at : List ℕ → Tables → ℕ → Option ℕ
-offset_at file t i = if nat_lt i t.count then u32_at (drop t.offsets file) (i * 4) else None
+offset_at file t i = do
+  need (nat_lt i t.count)
+  u32_at (drop t.offsets file) (i * 4)
 
 -- size and name at a place, and the place of the first item: fewer than 8 bytes there don't read
-abbrev pub as_info : ℕ → Option (ℕ × ℕ) → Option AddrInfo
-as_info at (Some (size, name)) = Some (record { size = size; name = record { 0 = name }; items = at + 8 })
-as_info at None = None
-
 unfoldable pub info_in : List ℕ → ℕ → Option AddrInfo
-info_in file at = as_info at (pair_at file at)
+info_in file at = do
+  (size, name) ← pair_at file at
+  Some (record { size = size; name = record { 0 = name }; items = at + 8 })
 
--- size and name of an entry
-unfoldable pub on_offset : List ℕ → Option ℕ → Option AddrInfo
-on_offset file (Some at) = info_in file at
-on_offset file None = None
-
+-- those of an entry
 unfoldable pub info_at : List ℕ → Tables → ℕ → Option AddrInfo
-info_at file t i = on_offset file (offset_at file t i)
+info_at file t i = do
+  at ← offset_at file t i
+  info_in file at
 
 -- whether a symbol covers an address: size 0 everything from the symbol's address on
 unfoldable pub covered_by : Address → Address → ℕ → Bool
@@ -47,10 +46,8 @@ covered_by addr symbol size =
     if nat_lt addr.0 symbol.0 then false else if size == 0 then true else nat_lt (addr.0 - symbol.0) size
 
 -- directory and file name at an index below the file count
-abbrev pub as_file : Option (ℕ × ℕ) → Option FileInfo
-as_file (Some (dir, name)) = Some (record { directory = record { 0 = dir }; filename = record { 0 = name } })
-as_file None = None
-
 unfoldable pub file_at : List ℕ → Tables → FileIndex → Option FileInfo
-file_at file t index =
-    if nat_lt index.0 t.file_count then as_file (pair_at (drop t.files file) (index.0 * 8)) else None
+file_at file t index = do
+  need (nat_lt index.0 t.file_count)
+  (dir, name) ← pair_at (drop t.files file) (index.0 * 8)
+  Some (record { directory = record { 0 = dir }; filename = record { 0 = name } })

@@ -17,7 +17,8 @@
 --           files · 8              file table: directory, file name
 --
 -- Assumes nothing.
-use Rattle.std.specs.Prelude.{◌≡◌, ℕ, ◌+◌, ◌*◌, ◌/◌, ◌≤◌, List, Option, Some, None, Result, Ok, Err, length, ◌==◌, nat_le, if◌then◌else◌}
+use Rattle.std.specs.Prelude.{◌≡◌, ℕ, ◌+◌, ◌*◌, ◌/◌, ◌≤◌, List, Result, Ok, length, ◌==◌, nat_le}
+use Rattle.reads.specs.Steps.{◌>>=◌, ◌>>◌, need, given}
 use Rattle.reads.specs.Answers.{u16_at, u32_at}
 use Rattle.parser.specs.declared.Tables.{Tables}
 use Rattle.parser.specs.declared.opening.Header.{Header}
@@ -60,34 +61,24 @@ tables_with h n = record {
   strings = record { place = h.strings_offset; size = h.strings_size };
 }
 
--- the file table and the string table lie in the file, or too few bytes are there
-unfoldable pub with_files : List ℕ → Header → ℕ → Result Tables ℕ
-with_files file h n =
-    if nat_le (files_place h + n * 8) (length file)
-    then if nat_le (h.strings_offset + h.strings_size) (length file) then Ok (tables_with h n) else Err 2
-    else Err 2
-
--- the address table, the data offsets and the file count lie in the file, or too few bytes are there
+-- the tables, where each lies in the file; else too few bytes are there
 unfoldable pub tables_of : List ℕ → Header → Result Tables ℕ
-tables_of file h =
-    if nat_le (files_place h) (length file) then with_files file h (num_at 4 file (file_count_place h)) else Err 2
+tables_of file h = do
+  need (nat_le (files_place h) (length file)) 2
+  let n = num_at 4 file (file_count_place h)
+  need (nat_le (files_place h + n * 8) (length file)) 2
+  need (nat_le (h.strings_offset + h.strings_size) (length file)) 2
+  Ok (tables_with h n)
 
--- the header lies in the file, or too few bytes are there
-unfoldable pub after_version : List ℕ → Result Tables ℕ
-after_version file = if nat_le 48 (length file) then tables_of file (numbers_of file) else Err 2
-
--- version is judged once 6 bytes are there
-unfoldable pub on_version : List ℕ → Option ℕ → Result Tables ℕ
-on_version file (Some version) = if version == 1 then after_version file else Err 4
-on_version file None = Err 2
-
--- magic is judged once 4 bytes are there
-unfoldable pub on_magic : List ℕ → Option ℕ → Result Tables ℕ
-on_magic file (Some magic) = if magic == 0x4753594d then on_version file (u16_at file 4) else Err 3
-on_magic file None = Err 2
-
+-- magic is judged once 4 bytes are there, version once 6 are, all else once the header is
 unfoldable pub opened_of : List ℕ → Result Tables ℕ
-opened_of file = on_magic file (u32_at file 0)
+opened_of file = do
+  magic ← given 2 (u32_at file 0)
+  need (magic == 0x4753594d) 3
+  version ← given 2 (u16_at file 4)
+  need (version == 1) 4
+  need (nat_le 48 (length file)) 2
+  tables_of file (numbers_of file)
 
 -- ---- what opening is held to
 

@@ -25,6 +25,7 @@ pub fn addr_at(file: &[u8], tables: Tables, i: usize) -> Address
 
 // Size and name at the place that data offset i says, counted from the file's start. None where fewer than 8 bytes
 // are there, and where the index is not below the count.
+#[tactic(auto, unfolding(crate::specs::Entries::info_at, crate::specs::Entries::offset_at))]
 pub fn addr_info(file: &[u8], tables: Tables, i: usize) -> Option<AddrInfo>
     ensures { result ≡ info_at file.now tables i }
 {
@@ -37,6 +38,7 @@ pub fn addr_info(file: &[u8], tables: Tables, i: usize) -> Option<AddrInfo>
 }
 
 // Size and name at a place, and the place after them.
+#[tactic(auto, using(crate::proofs::Fields::pair_within), unfolding(crate::specs::Entries::info_in))]
 fn info_in(file: &[u8], at: usize) -> Option<AddrInfo>
     ensures { result ≡ info_in file.now at }
 {
@@ -50,6 +52,7 @@ fn info_in(file: &[u8], at: usize) -> Option<AddrInfo>
 
 // Whether a symbol covers an address: size 0 covers everything from the symbol's address on, another size that many
 // bytes, the end not included. No sum is made, so none wraps.
+#[tactic(auto, unfolding(crate::specs::Entries::covered_by))]
 pub fn covers(addr: Address, symbol: Address, size: u32) -> bool
     ensures { result ≡ covered_by addr symbol size }
 {
@@ -64,6 +67,7 @@ pub fn covers(addr: Address, symbol: Address, size: u32) -> bool
 }
 
 // The row of the file table at an index. None where the index is not below the file count.
+#[tactic(auto, unfolding(crate::specs::Entries::file_at))]
 pub fn file_info(file: &[u8], tables: Tables, index: FileIndex) -> Option<FileInfo>
     ensures { result ≡ file_at file.now tables index }
 {

@@ -20,6 +20,7 @@ pub(crate) struct Header {
 
 // The file's tables. Refused: a wrong magic, judged once 4 bytes are there, is 3; a version other than 1, judged once
 // 6 are, is 4; too few bytes for the header, a table or the string table is 2.
+#[tactic(auto, unfolding(crate::specs::Header::opened_of))]
 pub fn parse_header(file: &[u8]) -> Result<Tables, u8>
     ensures { result ≡ opened_of file.now }
 {
@@ -39,6 +40,7 @@ pub fn parse_header(file: &[u8]) -> Result<Tables, u8>
 }
 
 // The numbers of a header that `parse_header` has seen to be there.
+#[tactic(auto, unfolding(crate::specs::Header::numbers_of))]
 fn header_numbers(file: &[u8]) -> Header
     requires { 48 ≤ length file.now }
     ensures { result ≡ numbers_of file.now }
@@ -59,6 +61,7 @@ fn header_numbers(file: &[u8]) -> Header
 
 // Where the tables stand. No sum wraps: the count is below 2^32 and an entry below 2^8 bytes, so the address table ends
 // below 2^40 + 48; data offsets and files add less than 2^34 and 2^35, and the largest sum, `files_end`, is below 2^41.
+#[tactic(auto, unfolding(crate::specs::Header::tables_of))]
 fn place_tables(file: &[u8], header: Header) -> Result<Tables, u8>
     ensures { result ≡ tables_of file.now header }
 {

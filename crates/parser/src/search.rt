@@ -1,7 +1,8 @@
 // The entry of an address: a halving search on the address table in place (RULES, "Finding the entry").
-ghost use Rattle.std.specs.Prelude.{◌≡◌, ◌+◌, ◌*◌, ◌<◌, ◌≤◌, true, length};
+ghost use Rattle.std.specs.Prelude.{◌≡◌, ◌+◌, ◌-◌, ◌*◌, ◌<◌, ◌≤◌, true, length, IsNone, IfSome};
 ghost use Rattle.parser.specs.Numbers.{num_at};
 ghost use Rattle.parser.specs.Search.{is_width, len_of, entries, find_in, find_of};
+ghost use Rattle.parser.specs.Search.{table_of, Right, NeverFalls, LastNotAbove};
 
 use super::Tables;
 use super::fixed::{from_place, num8, num16, num32, num64};
@@ -10,7 +11,14 @@ use types::Address;
 // The entry of the address table that is chosen for an address. None: an address below the base, an offset size
 // other than 1, 2, 4 or 8, no entries, or a first entry above the address minus the base.
 pub fn find_addr(file: &[u8], tables: Tables, addr: Address) -> Option<usize>
-    ensures { result ≡ find_of file.now tables addr }
+    // an entry that isn't above, and is the last or has a next one that is above; or there is none to choose
+    ensures chosen { tables.base.0 ≤ addr.0
+        → Right (table_of file.now tables) (addr.0 - tables.base.0) result }
+    ensures below { addr.0 < tables.base.0 → IsNone result }
+    // in a table that never falls: the last entry that isn't above
+    ensures last { NeverFalls (table_of file.now tables)
+        → IfSome result (LastNotAbove (table_of file.now tables) (addr.0 - tables.base.0)) }
+    ensures exact { result ≡ find_of file.now tables addr }
 {
     if addr.0 < tables.base.0 {
         return None;

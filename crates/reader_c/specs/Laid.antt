@@ -6,7 +6,8 @@ use Rattle.int64.specs.Wrap.{bits_of}
 use Rattle.leb128.specs.declared.Cause.{Cause}
 use Rattle.leb128.specs.declared.Cause.TheVariants.{Short, Wide}
 use Rattle.linetab.specs.declared.LineTableRow.{LineTableRow}
-use Rattle.inline.specs.declared.Listed.{Listed}
+use Rattle.types.specs.declared.Refusal.{Refusal}
+use Rattle.types.specs.Refusal.{number_of}
 use Rattle.reader_c.specs.declared.NumberAnswer.{NumberAnswer}
 use Rattle.reader_c.specs.declared.LineAnswer.{LineAnswer}
 use Rattle.reader_c.specs.declared.BlockAnswer.{BlockAnswer}
@@ -44,6 +45,7 @@ laid_line (Ok None) = rowless 1
 laid_line (Err Short) = rowless 2
 laid_line (Err Wide) = rowless 3
 
--- what a block's answer says
-abbrev pub listed_as : BlockAnswer → Listed
-listed_as r = record { number = r.number; count = r.count }
+-- how many frames a block has, or its refusal's number
+abbrev pub laid_block : Result ℕ Refusal → BlockAnswer
+laid_block (Ok count) = record { count = count; number = 0 }
+laid_block (Err r) = record { count = 0; number = number_of r }

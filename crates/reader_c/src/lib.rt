@@ -2,16 +2,17 @@
 // arguments on and lays the answer out as C has it. What a host should call is another crate's business.
 #![tactic(auto)]
 
-ghost use Rattle.std.specs.Prelude.{◌≡◌};
+ghost use Rattle.std.specs.Prelude.{◌≡◌, min, length};
 ghost use Rattle.leb128.specs.Answers.{unsigned_at, signed_at};
 ghost use Rattle.linetab.specs.Rows.{line_row};
-ghost use Rattle.inline.specs.Block.{Lists};
+ghost use Rattle.inline.specs.Block.{block_of};
+ghost use Rattle.gsym.specs.Lists.{block_over, counted};
 ghost use Rattle.reader_c.specs.Laid.{numberless, laid_unsigned, laid_signed};
-ghost use Rattle.reader_c.specs.Laid.{address, rowless, laid_line, listed_as};
+ghost use Rattle.reader_c.specs.Laid.{address, rowless, laid_line, laid_block};
 
 use leb128::Cause;
 use linetab::LineTableRow;
-use types::Address;
+use types::{Address, InlineFrame};
 
 // A LEB128 number. tag 0: its value (a signed one as its 64 bits) and the place after it; 1: it ended short; 2: it is
 // too wide. Where there is no value the other fields are 0.
@@ -121,14 +122,22 @@ pub struct BlockAnswer {
     pub number: u8,
 }
 
-// The frames of one block at an address, three numbers each, to the front of `store`: `inline::block_in`.
+// The frames of one block at an address, to the front of `frames`: `gsym::block_frames`.
 #[unsafe(no_mangle)]
-pub extern "C" fn gsym_block(block: &[u8], symbol: u64, addr: u64, store: &mut [u32]) -> BlockAnswer
-    ensures { Lists block.now symbol addr store.old store.new (listed_as result) }
+pub extern "C" fn gsym_block(
+    block: &[u8],
+    symbol: u64,
+    addr: u64,
+    frames: &mut [InlineFrame],
+) -> BlockAnswer
+    ensures answer { result ≡ laid_block (counted (block_of symbol addr (min 64 (length frames.old)) block.now)) }
+    ensures list { frames.new ≡ block_over (block_of symbol addr (min 64 (length frames.old)) block.now) frames.old }
 {
-    let l = inline::block_in(block, Address(symbol), Address(addr), store);
-    BlockAnswer {
-        count: l.count,
-        number: l.number,
+    match gsym::block_frames(block, Address(symbol), Address(addr), frames) {
+        Ok(count) => BlockAnswer { count, number: 0 },
+        Err(refusal) => BlockAnswer {
+            count: 0,
+            number: refusal.number(),
+        },
     }
 }

@@ -1,3 +1,5 @@
 pub mod Window
 pub mod Places
 pub mod Written
+pub mod Steps
+pub mod Maybe

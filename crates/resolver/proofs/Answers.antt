@@ -10,26 +10,27 @@ use Rattle.strtab.specs.Strings.{text_in, part_of}
 use Rattle.strtab.proofs.Texts.{text_in-inside}
 use Rattle.parser.specs.declared.Tables.{Tables}
 use Rattle.parser.specs.Header.{Within}
-use Rattle.parser.specs.Entries.{symbol_at, offset_at, info_at, on_offset}
+use Rattle.parser.specs.Entries.{symbol_at, offset_at, info_at}
 use Rattle.parser.proofs.Places.{tables-within}
+use Rattle.resolver.specs.Blocks.{Entered}
 use Rattle.resolver.specs.Data.{data_at, data_of}
 use Rattle.resolver.specs.Book.{book_of}
 use Rattle.resolver.specs.Says.{Call, at, absent, Said, says, refuses}
 use Rattle.resolver.specs.Spell.{refusing, text, spell_text, spell_frame, spell, bytes_of}
 use Rattle.resolver.specs.Spell.{shown_frame, shown, cut, read_text, read_call, read_said}
 use Rattle.resolver.specs.Lookup.{answer_of, answer_at, lookup_of}
-use Rattle.resolver.proofs.Outcomes.{Entered, entered_says, lookup-entered}
+use Rattle.resolver.proofs.Outcomes.{entered_says, lookup-entered}
 
 -- ---- where an answer comes from
 
 module _ (file : List ℕ) (t : Tables) (i : ℕ) (addr : Address) (o : Options) (room : ℕ) where
   pub answer-at : (p : ℕ) → offset_at file t i ≡ Some p →
       answer_at file t i addr o room ≡ answer_of file t (symbol_at file t i) addr o room (data_at file p)
-  unfolding answer_at data_of data_at info_at on_offset
+  unfolding answer_at data_of data_at info_at
   answer-at p e = rw e
 
   pub answer-no-offset : offset_at file t i ≡ None → answer_at file t i addr o room ≡ refusing 5
-  unfolding answer_at answer_of data_of info_at on_offset
+  unfolding answer_at answer_of data_of info_at
   answer-no-offset e = rw e
 
 -- ---- the bytes of a text

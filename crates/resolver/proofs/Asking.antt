@@ -1,8 +1,7 @@
 -- What is asked for decides: with both options the lookup is that with frames; else room doesn't matter, no records are
 -- written, and the answer is the plain one.
 -- Assumes nothing.
-use Rattle.std.proofs.Common.{Some, None, Ok, Err, Option, Result, ℕ, Bool, true, false, List, [], ◌∷◌, ⊎_elim, ◌≡◌, refl, sym, ap, ◌∙◌, eqb, if◌then◌else◌}
-use mathlib.Core.Bool.{false≢true}
+use Rattle.std.proofs.Common.{Some, None, Ok, Err, Option, Result, ℕ, Bool, true, false, List, [], ◌∷◌, ◌≡◌, refl, sym, ap, ◌∙◌, eqb, if◌then◌else◌}
 use Rattle.types.specs.declared.Address.{Address}
 use Rattle.types.specs.declared.Answer.{Answer}
 use Rattle.types.specs.declared.Options.{Options}
@@ -15,7 +14,7 @@ use Rattle.resolver.specs.Says.{SiteRead, is, no, site_of, with_frames, after_he
 use Rattle.resolver.specs.Spell.{Looked, spell}
 use Rattle.resolver.specs.Lookup.{lookup_of}
 use Rattle.resolver.specs.Stages.{landing_of, plain_options, all_options}
-use Rattle.resolver.specs.Rows.{records_in, flat_frames, Wrote, Looks}
+use Rattle.resolver.specs.Rows.{looked}
 use Rattle.resolver.proofs.Books.{never}
 use Rattle.resolver.proofs.Rowing.{Quiet, a-row, unread, quiet}
 use Rattle.resolver.proofs.Landings.{landed, not-landed}
@@ -123,36 +122,23 @@ plain-none file addr code = go (landing_of file addr) refl
     go (Err n) u =
         rw (not-landed file addr n u (plain_options code) 0) (record { count = refl; frames = refl })
 
--- ---- `lookup_in`
+-- ---- `lookup_by`
 
-module _ (file : List ℕ) (addr : Address) (o : Options) (entry : List ℕ) where
+module _ (file : List ℕ) (addr : Address) (o : Options) (room : ℕ) where
   pub looks-plain :
       (o.code_info ≡ true → o.inlining ≡ false) → (r : Answer) →
-      r ≡ (lookup_of file addr (plain_options o.code_info) 0).answer → Looks file addr o entry entry r
-  unfolding flat_frames
+      r ≡ (lookup_of file addr (plain_options o.code_info) 0).answer → looked r [] ≡ lookup_of file addr o room
   looks-plain h r q =
-      let s = plain-same file addr o (records_in entry) h in
       let z = plain-none file addr o.code_info in
-      record {
-        says = q ∙ sym (ap (λ (l : Looked). l.answer) s);
-        records = rw (q, s, z.count, z.frames) refl;
-        kept = refl;
-        untouched = λ i. refl;
-      }
+      ap (λ (a : Answer). looked a []) q
+      ∙ ap (looked (lookup_of file addr (plain_options o.code_info) 0).answer) (sym z.frames)
+      ∙ sym (plain-same file addr o room h)
 
   pub looks-framed :
-      o.code_info ≡ true → o.inlining ≡ true → (exit : List ℕ) (r : Answer) →
-      Wrote (lookup_of file addr all_options (records_in entry)) entry exit r → Looks file addr o entry exit r
-  looks-framed c i exit r w =
+      o.code_info ≡ true → o.inlining ≡ true → (l : Looked) → l ≡ lookup_of file addr all_options room →
+      l ≡ lookup_of file addr o room
+  looks-framed c i l L =
       let s : o ≡ all_options =
       ap (λ (b : Bool). record { code_info = b; inlining = o.inlining }) c
       ∙ ap (λ (b : Bool). record { code_info = true; inlining = b }) i in
-      record {
-        says = rw s w.says;
-        records = rw s w.records;
-        kept = w.kept;
-        untouched = λ f. absurd (⊎_elim
-            (λ (e : o.code_info ≡ false). false≢true (sym e ∙ c))
-            (λ (e : o.inlining ≡ false). false≢true (sym e ∙ i))
-            f);
-      }
+      rw s L

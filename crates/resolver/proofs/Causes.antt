@@ -5,6 +5,7 @@ use Rattle.types.specs.declared.InlineFrame.{InlineFrame}
 use Rattle.parser.specs.declared.FileInfo.{FileInfo}
 use Rattle.inline.proofs.Numbers.{never}
 use Rattle.resolver.specs.Book.{Book, nth_file, reads_text, reads_name}
+use Rattle.resolver.specs.Met.{Unplaced, no_row, no-dir, no-file, Uncalled, no_name, no-site, FirstUncalled}
 use Rattle.resolver.specs.Says.{Site, SiteRead, is, no, site, site_in, site_of}
 use Rattle.resolver.specs.Says.{Call, Calls, calls, and_call, calls_of}
 
@@ -23,14 +24,6 @@ past-file (r ∷ rs) zero e = never (let z : ◌≡◌ {A = ℕ} 0 1 = cc in z)
 past-file (r ∷ rs) (suc i) e = let l = past-file rs i e in omega arith
 
 -- ---- a position
-
--- why a position doesn't read: 7 for the index, 8 for the directory, then 8 for the file
-pub data Unplaced (b : Book) (index n : ℕ) : Type 0 where
-  no_row : length b.files ≤ index → n ≡ 7 → Unplaced b index n
-  no-dir : (r : FileInfo) → nth_file b.files index ≡ Some r → reads_text b r.directory.0 ≡ false → n ≡ 8 →
-      Unplaced b index n
-  no-file : (r : FileInfo) → nth_file b.files index ≡ Some r → reads_text b r.directory.0 ≡ true →
-      reads_text b r.filename.0 ≡ false → n ≡ 8 → Unplaced b index n
 
 module _ (b : Book) (index line n : ℕ) where
   pub site-unplaced : site_of b index line ≡ no n → Unplaced b index n
@@ -64,20 +57,6 @@ module _ (b : Book) (index line n : ℕ) where
       go (no-file r q d f e) = (omega arith, omega arith)
 
 -- ---- later frames
-
--- why a later frame doesn't read: 6 for its name, then 7, 8, 8 for its call site
-pub data Uncalled (b : Book) (f : InlineFrame) (n : ℕ) : Type 0 where
-  no_name : reads_name b f.name.0 ≡ false → n ≡ 6 → Uncalled b f n
-  no-site : reads_name b f.name.0 ≡ true → Unplaced b f.call_file.0 n → Uncalled b f n
-
--- the first of the later frames that doesn't read
-pub record FirstUncalled (b : Book) (fs : List InlineFrame) (n : ℕ) : Type 0 where
-  pub before : List InlineFrame
-  pub this : InlineFrame
-  pub after : List InlineFrame
-  pub split : fs ≡ before ++ this ∷ after
-  pub read : (cs : List Call) × (calls_of b before ≡ calls cs)
-  pub unread : Uncalled b this n
 
 abbrev call : ℕ → Site → Call
 call name s = record { name = name; site = s }

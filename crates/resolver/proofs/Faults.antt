@@ -1,14 +1,17 @@
 -- Faults refuse in list order: a fault is told exactly where an item, after others that read, has a line header or an
 -- inline block that doesn't read.
 -- Assumes nothing.
-use Rattle.std.proofs.Common.{Some, None, Option, ℕ, Bool, true, false, List, [], ◌∷◌, ◌++◌, ◌≡◌, refl, sym, ap, ◌∙◌, eqb, arith, eq-eqb, ne_eqb, eqb-true, if◌then◌else◌}
+use Rattle.std.proofs.Common.{Some, None, Ok, Err, Option, ℕ, Bool, true, false, List, [], ◌∷◌, ◌++◌, ◌≡◌, refl, sym, ap, ◌∙◌, eqb, arith, eq-eqb, ne_eqb, eqb-true, if◌then◌else◌}
 use Rattle.types.specs.declared.InlineFrame.{InlineFrame}
 use Rattle.linetab.specs.Rows.{line_row}
-use Rattle.inline.specs.Block.{Block, listed, refused}
+use Rattle.types.specs.declared.Refusal.{Refusal}
+use Rattle.types.specs.Refusal.{number_of}
+use Rattle.inline.specs.Block.{Block}
 use Rattle.inline.proofs.Numbers.{never}
 use Rattle.resolver.specs.Data.{Piece}
+use Rattle.resolver.specs.Blocks.{block_in}
 use Rattle.resolver.specs.Heard.{Ask, known, fault, after_block, hear}
-use Rattle.resolver.proofs.Heards.{RowKnown, row, unread, as_row, row_after, on_row, block_in, frames_after}
+use Rattle.resolver.proofs.Heards.{RowKnown, row, unread, as_row, row_after, on_row, frames_after}
 use Rattle.resolver.proofs.Heards.{hear-item}
 use Rattle.linetab.specs.declared.LineTableRow.{LineTableRow}
 
@@ -16,7 +19,8 @@ use Rattle.linetab.specs.declared.LineTableRow.{LineTableRow}
 pub data ItemFault (q : Ask) (p : Piece) (r : Option LineTableRow) (fs : List InlineFrame) (n : ℕ) : Type 0 where
   header : r ≡ None → p.kind ≡ 1 → as_row (line_row p.bytes q.symbol q.addr) ≡ unread → n ≡ 9 →
       ItemFault q p r fs n
-  block : fs ≡ [] → p.kind ≡ 2 → q.inlining ≡ true → block_in q p ≡ refused n → ItemFault q p r fs n
+  block : fs ≡ [] → p.kind ≡ 2 → q.inlining ≡ true → (k : Refusal) → block_in q p ≡ Err k → number_of k ≡ n →
+      ItemFault q p r fs n
 
 -- the first item that refuses
 pub record FirstFault (q : Ask) (ps : List Piece) (r : Option LineTableRow) (fs : List InlineFrame) (n : ℕ) : Type 0 where
@@ -56,21 +60,21 @@ module _ (q : Ask) where
   other_row p None k =
       let h : p.kind ≡ 1 → ⊥ = λ z. absurd (omega arith) in rw (ne_eqb p.kind 1 h)
 
-  frames-refused : (p : Piece) (fs : List InlineFrame) (n : ℕ) → frames_after q p fs ≡ refused n →
-      (fs ≡ []) × (p.kind ≡ 2) × (q.inlining ≡ true) × (block_in q p ≡ refused n)
+  frames-refused : (p : Piece) (fs : List InlineFrame) (n : Refusal) → frames_after q p fs ≡ Err n →
+      (fs ≡ []) × (p.kind ≡ 2) × (q.inlining ≡ true) × (block_in q p ≡ Err n)
   unfolding frames_after
   frames-refused p (f ∷ fs) n e = never (let z : ◌≡◌ {A = ℕ} 0 1 = cc in z)
   frames-refused p [] n e = go (eqb p.kind 2) refl q.inlining refl e
     where
       go : (t : Bool) → eqb p.kind 2 ≡ t → (u : Bool) → q.inlining ≡ u →
-          (if t then if u then block_in q p else listed [] else listed []) ≡ refused n →
-          (◌≡◌ {A = List InlineFrame} [] []) × (p.kind ≡ 2) × (q.inlining ≡ true) × (block_in q p ≡ refused n)
+          (if t then if u then block_in q p else Ok [] else Ok []) ≡ Err n →
+          (◌≡◌ {A = List InlineFrame} [] []) × (p.kind ≡ 2) × (q.inlining ≡ true) × (block_in q p ≡ Err n)
       go true k true i e = (refl, eqb-true p.kind 2 k, i, e)
       go true k false i e = never (let z : ◌≡◌ {A = ℕ} 0 1 = cc in z)
       go false k u i e = never (let z : ◌≡◌ {A = ℕ} 0 1 = cc in z)
 
-  refused-frames : (p : Piece) (n : ℕ) → p.kind ≡ 2 → q.inlining ≡ true → block_in q p ≡ refused n →
-      frames_after q p [] ≡ refused n
+  refused-frames : (p : Piece) (n : Refusal) → p.kind ≡ 2 → q.inlining ≡ true → block_in q p ≡ Err n →
+      frames_after q p [] ≡ Err n
   unfolding frames_after
   refused-frames p n k i e = rw (eq-eqb p.kind 2 k, i) e
 
@@ -81,11 +85,12 @@ module _ (q : Ask) where
       let h : row_after q p r ≡ unread = ap (row_after q p) a ∙ unread-row p k e in
       hear-item q p ps r fs
       ∙ ap (on_row (λ s. after_block (λ gs. hear q ps s gs) (frames_after q p fs))) h ∙ ap fault (sym m)
-  item-fault p ps r fs n (block a k i e) =
-      let h : frames_after q p fs ≡ refused n = ap (frames_after q p) a ∙ refused-frames p n k i e in
+  item-fault p ps r fs n (block a k i x e m) =
+      let h : frames_after q p fs ≡ Err x = ap (frames_after q p) a ∙ refused-frames p x k i e in
       hear-item q p ps r fs
       ∙ ap (on_row (λ s. after_block (λ gs. hear q ps s gs) (frames_after q p fs))) (other_row p r k)
       ∙ ap (after_block (λ gs. hear q ps r gs)) h
+      ∙ ap fault m
 
   -- an item refuses, or the rest is heard with what is known after it
   pub data ItemHeard (p : Piece) (ps : List Piece) (r : Option LineTableRow) (fs : List InlineFrame) : Type 0 where
@@ -98,9 +103,9 @@ module _ (q : Ask) where
     where
       go : (k : RowKnown) → row_after q p r ≡ k → (b : Block) → frames_after q p fs ≡ b → ItemHeard p ps r fs
       go unread e b f = let u = row-unread p r e in faulty 9 (header u.0 u.1 u.2 refl)
-      go (row s) e (refused n) f =
-          let u = frames-refused p fs n f in faulty n (block u.0 u.1 u.2 u.3)
-      go (row s) e (listed gs) f =
+      go (row s) e (Err n) f =
+          let u = frames-refused p fs n f in faulty (number_of n) (block u.0 u.1 u.2 n u.3 refl)
+      go (row s) e (Ok gs) f =
           onward s gs
           (λ (rest : List Piece).
           hear-item q p rest r fs

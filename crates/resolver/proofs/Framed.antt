@@ -34,7 +34,9 @@ use Rattle.resolver.specs.Says.{
 }
 use Rattle.resolver.specs.Spell.{Looked, refusing, spell_text, spell_frame, spell}
 use Rattle.resolver.specs.Lookup.{lookup_of}
-use Rattle.resolver.specs.Stages.{record_of, place_in, spell_site, spell_read, place_at, at_call, call_at, all_options}
+use Rattle.resolver.specs.Stages.{record_of, place_in, all_options}
+use Rattle.parser.specs.Header.{Within}
+use Rattle.resolver.proofs.Positions.{spell_site, spell_read, at_call, place-is, call-is}
 use Rattle.resolver.specs.Rows.{
   Lifted,
   lifted,
@@ -52,7 +54,7 @@ use Rattle.resolver.specs.Rows.{
 }
 use Rattle.resolver.proofs.Landings.{Landed}
 
-module _ (file : List ℕ) (t : Tables) where
+module _ (file : List ℕ) (t : Tables) (w : Within file t) where
   abbrev book : Book
   book = book_of file t
 
@@ -93,11 +95,11 @@ module _ (file : List ℕ) (t : Tables) where
     lift-is :
         (made : List Frame) (n : ℕ) (fs : List InlineFrame) →
         lift file t (spell_site book start row) made (named n) fs ≡ lifts made n (calls_of book fs)
-    unfolding lift calls_of raised call_at place_at
+    unfolding lift calls_of raised
     lift-is made n [] = refl
     lift-is made n (f ∷ fs) =
-        go (λ s. lift-is (made ++ record_of (named n) (spell_site book start s) ∷ []) f.name.0 fs)
-        (reads_name book f.name.0) (site_of book f.call_file.0 f.call_line.0)
+        rw (call-is file t w f) (go (λ s. lift-is (made ++ record_of (named n) (spell_site book start s) ∷ []) f.name.0 fs)
+        (reads_name book f.name.0) (site_of book f.call_file.0 f.call_line.0))
       where
         go :
             ((s : Site) →
@@ -130,10 +132,10 @@ module _ (file : List ℕ) (t : Tables) where
 
       later : (fs : List InlineFrame) →
           with_later file t e (named n) (spell_site book start row) fs ≡ say (calls_of book fs) row n
-      unfolding with_later calls_of call_at place_at spell raised
+      unfolding with_later calls_of spell raised
       later [] = rw size refl
       later (f ∷ fs) =
-          go (reads_name book f.name.0) (site_of book f.call_file.0 f.call_line.0)
+          rw (call-is file t w f) (go (reads_name book f.name.0) (site_of book f.call_file.0 f.call_line.0))
         where
           go :
               (b : Bool) (s : SiteRead) →
@@ -165,8 +167,9 @@ module _ (file : List ℕ) (t : Tables) where
         go false = refl
 
     with-heard : (h : Heard) → with_heard file t e h ≡ spell book start e.symbol (after_heard book d h)
-    unfolding with_heard after_heard place_at spell
-    with-heard (known (Some r) fs) = with-site fs (site_of book r.file_idx.0 r.file_line.0)
+    unfolding with_heard after_heard spell
+    with-heard (known (Some r) fs) =
+        rw (place-is file t w r.file_idx.0 r.file_line.0) (with-site fs (site_of book r.file_idx.0 r.file_line.0))
     with-heard (known None fs) = rw (size, name) refl
     with-heard (fault k) = refl
 
@@ -176,7 +179,7 @@ pub framed :
     frame_rest file t e addr room ≡ lookup_of file addr all_options room
 unfolding frame_rest say_more
 framed file addr t e room L =
-    with-heard file t e L.said L.size L.name (heard_in e.symbol addr room (items_at file e.items).list)
+    with-heard file t L.within e L.said L.size L.name (heard_in e.symbol addr room (items_at file e.items).list)
     ∙ ap
     (λ (ps : List Piece). spell (book_of file t) t.strings.place e.symbol
     (after_heard (book_of file t) L.said (hear (ask e.symbol addr room true) ps None [])))

@@ -4,9 +4,12 @@
 use Rattle.std.proofs.Common.{Some, None, Ok, Err, Option, Result, ℕ, Bool, true, false, List, [], ◌∷◌, ◌≡◌, refl, sym, ap, ◌∙◌, ◌⊎◌, inl, inr, eqb, if◌then◌else◌}
 use Rattle.types.specs.declared.InlineFrame.{InlineFrame}
 use Rattle.linetab.specs.Rows.{line_row}
-use Rattle.inline.specs.Block.{Block, listed, refused, block_of}
+use Rattle.types.specs.declared.Refusal.{Refusal}
+use Rattle.types.specs.Refusal.{number_of}
+use Rattle.inline.specs.Block.{Block}
 use Rattle.inline.proofs.Numbers.{never}
 use Rattle.resolver.specs.Data.{Piece}
+use Rattle.resolver.specs.Blocks.{block_in}
 use Rattle.resolver.specs.Heard.{Ask, ask, Heard, known, fault, after_line, hear_row, after_block, hear_frames, hear}
 use Rattle.linetab.specs.declared.LineTableRow.{LineTableRow}
 use Rattle.leb128.specs.declared.Cause.{Cause}
@@ -38,21 +41,17 @@ rows_alone q (p ∷ ps) r = then_row (rows_alone q ps) (row_after q p r)
 
 -- ---- frames alone
 
--- what an item of type 2 gives
-abbrev pub block_in : Ask → Piece → Block
-block_in q p = block_of q.symbol.0 q.addr.0 q.room p.bytes
-
 -- after an item
 unfoldable pub frames_after : Ask → Piece → List InlineFrame → Block
-frames_after q p (f ∷ fs) = listed (f ∷ fs)
-frames_after q p [] = if eqb p.kind 2 then if q.inlining then block_in q p else listed [] else listed []
+frames_after q p (f ∷ fs) = Ok (f ∷ fs)
+frames_after q p [] = if eqb p.kind 2 then if q.inlining then block_in q p else Ok [] else Ok []
 
 abbrev pub then_frames : (List InlineFrame → Block) → Block → Block
-then_frames go (listed fs) = go fs
-then_frames go (refused n) = refused n
+then_frames go (Ok fs) = go fs
+then_frames go (Err r) = Err r
 
 unfoldable pub frames_alone : Ask → List Piece → List InlineFrame → Block
-frames_alone q [] fs = listed fs
+frames_alone q [] fs = Ok fs
 frames_alone q (p ∷ ps) fs = then_frames (frames_alone q ps) (frames_after q p fs)
 
 -- ---- one item
@@ -85,7 +84,7 @@ frames-after q p go [] = by_tests (eqb p.kind 2) q.inlining
   where
     by_tests : (t u : Bool) →
         (if t then if u then after_block go (block_in q p) else go [] else go [])
-        ≡ after_block go (if t then if u then block_in q p else listed [] else listed [])
+        ≡ after_block go (if t then if u then block_in q p else Ok [] else Ok [])
     by_tests true true = refl
     by_tests true false = refl
     by_tests false u = refl
@@ -107,50 +106,50 @@ hear-item q p ps r fs =
 module _ (q : Ask) where
   -- where all reads, row and frames are those of their own blocks
   pub heard-parts : (ps : List Piece) (r : Option LineTableRow) (fs : List InlineFrame) (s : Option LineTableRow) (gs : List InlineFrame) →
-      hear q ps r fs ≡ known s gs → (rows_alone q ps r ≡ row s) × (frames_alone q ps fs ≡ listed gs)
+      hear q ps r fs ≡ known s gs → (rows_alone q ps r ≡ row s) × (frames_alone q ps fs ≡ Ok gs)
   unfolding hear rows_alone frames_alone
   heard-parts [] r fs s gs e = (cc, cc)
   heard-parts (p ∷ ps) r fs s gs e =
       go (heard-parts ps) (row_after q p r) (frames_after q p fs) (sym (hear-item q p ps r fs) ∙ e)
     where
       go : ((r : Option LineTableRow) (fs : List InlineFrame) (s : Option LineTableRow) (gs : List InlineFrame) →
-          hear q ps r fs ≡ known s gs → (rows_alone q ps r ≡ row s) × (frames_alone q ps fs ≡ listed gs)) →
+          hear q ps r fs ≡ known s gs → (rows_alone q ps r ≡ row s) × (frames_alone q ps fs ≡ Ok gs)) →
           (k : RowKnown) (b : Block) → on_row (λ s. after_block (λ gs. hear q ps s gs) b) k ≡ known s gs →
-          (then_row (rows_alone q ps) k ≡ row s) × (then_frames (frames_alone q ps) b ≡ listed gs)
-      go rest (row r) (listed fs) f = rest r fs s gs f
-      go rest (row r) (refused n) f = never (let z : ◌≡◌ {A = ℕ} 0 1 = cc in z)
+          (then_row (rows_alone q ps) k ≡ row s) × (then_frames (frames_alone q ps) b ≡ Ok gs)
+      go rest (row r) (Ok fs) f = rest r fs s gs f
+      go rest (row r) (Err n) f = never (let z : ◌≡◌ {A = ℕ} 0 1 = cc in z)
       go rest unread b f = never (let z : ◌≡◌ {A = ℕ} 0 1 = cc in z)
 
   pub parts-heard : (ps : List Piece) (r : Option LineTableRow) (fs : List InlineFrame) (s : Option LineTableRow) (gs : List InlineFrame) →
-      rows_alone q ps r ≡ row s → frames_alone q ps fs ≡ listed gs → hear q ps r fs ≡ known s gs
+      rows_alone q ps r ≡ row s → frames_alone q ps fs ≡ Ok gs → hear q ps r fs ≡ known s gs
   unfolding hear rows_alone frames_alone
   parts-heard [] r fs s gs e f = cc
   parts-heard (p ∷ ps) r fs s gs e f =
       hear-item q p ps r fs ∙ go (parts-heard ps) (row_after q p r) (frames_after q p fs) e f
     where
       go : ((r : Option LineTableRow) (fs : List InlineFrame) (s : Option LineTableRow) (gs : List InlineFrame) →
-          rows_alone q ps r ≡ row s → frames_alone q ps fs ≡ listed gs → hear q ps r fs ≡ known s gs) →
+          rows_alone q ps r ≡ row s → frames_alone q ps fs ≡ Ok gs → hear q ps r fs ≡ known s gs) →
           (k : RowKnown) (b : Block) → then_row (rows_alone q ps) k ≡ row s →
-          then_frames (frames_alone q ps) b ≡ listed gs →
+          then_frames (frames_alone q ps) b ≡ Ok gs →
           on_row (λ s. after_block (λ gs. hear q ps s gs) b) k ≡ known s gs
-      go rest (row r) (listed fs) e f = rest r fs s gs e f
-      go rest (row r) (refused n) e f = never (let z : ◌≡◌ {A = ℕ} 0 1 = cc in z)
+      go rest (row r) (Ok fs) e f = rest r fs s gs e f
+      go rest (row r) (Err n) e f = never (let z : ◌≡◌ {A = ℕ} 0 1 = cc in z)
       go rest unread b e f = never (let z : ◌≡◌ {A = ℕ} 0 1 = cc in z)
 
   -- a fault is 9 and that of the line blocks, or that of the inline blocks
   pub fault-part : (ps : List Piece) (r : Option LineTableRow) (fs : List InlineFrame) (n : ℕ) → hear q ps r fs ≡ fault n →
-      ((n ≡ 9) × (rows_alone q ps r ≡ unread)) ⊎ (frames_alone q ps fs ≡ refused n)
+      ((n ≡ 9) × (rows_alone q ps r ≡ unread)) ⊎ ((k : Refusal) × (frames_alone q ps fs ≡ Err k) × (number_of k ≡ n))
   unfolding hear rows_alone frames_alone
   fault-part [] r fs n e = never (let z : ◌≡◌ {A = ℕ} 0 1 = cc in z)
   fault-part (p ∷ ps) r fs n e =
       go (fault-part ps) (row_after q p r) (frames_after q p fs) (sym (hear-item q p ps r fs) ∙ e)
     where
       go : ((r : Option LineTableRow) (fs : List InlineFrame) (n : ℕ) → hear q ps r fs ≡ fault n →
-          ((n ≡ 9) × (rows_alone q ps r ≡ unread)) ⊎ (frames_alone q ps fs ≡ refused n)) →
+          ((n ≡ 9) × (rows_alone q ps r ≡ unread)) ⊎ ((k : Refusal) × (frames_alone q ps fs ≡ Err k) × (number_of k ≡ n))) →
           (k : RowKnown) (b : Block) → on_row (λ s. after_block (λ gs. hear q ps s gs) b) k ≡ fault n →
-          ((n ≡ 9) × (then_row (rows_alone q ps) k ≡ unread)) ⊎ (then_frames (frames_alone q ps) b ≡ refused n)
-      go rest (row r) (listed fs) f = rest r fs n f
-      go rest (row r) (refused m) f = inr cc
+          ((n ≡ 9) × (then_row (rows_alone q ps) k ≡ unread)) ⊎ ((k : Refusal) × (then_frames (frames_alone q ps) b ≡ Err k) × (number_of k ≡ n))
+      go rest (row r) (Ok fs) f = rest r fs n f
+      go rest (row r) (Err m) f = inr (m, refl, cc)
       go rest unread b f = inl (cc, refl)
 
 -- ---- neither looks at the other
@@ -177,17 +176,17 @@ rows-any-room q room inlining (p ∷ ps) r =
     go rest unread = refl
 
 -- without inlining there are no frames to hear
-frame_off : (q : Ask) (p : Piece) (fs : List InlineFrame) → q.inlining ≡ false → frames_after q p fs ≡ listed fs
+frame_off : (q : Ask) (p : Piece) (fs : List InlineFrame) → q.inlining ≡ false → frames_after q p fs ≡ Ok fs
 unfolding frames_after
 frame_off q p (f ∷ fs) h = refl
 frame_off q p [] h = rw h (by_kind (eqb p.kind 2))
   where
-    by_kind : (t : Bool) → (if t then listed [] else listed []) ≡ listed []
+    by_kind : (t : Bool) → ◌≡◌ {A = Block} (if t then Ok [] else Ok []) (Ok [])
     by_kind true = refl
     by_kind false = refl
 
 pub frames-off : (q : Ask) → q.inlining ≡ false → (ps : List Piece) (fs : List InlineFrame) →
-    frames_alone q ps fs ≡ listed fs
+    frames_alone q ps fs ≡ Ok fs
 unfolding frames_alone
 frames-off q h [] fs = refl
 frames-off q h (p ∷ ps) fs = ap (then_frames (frames_alone q ps)) (frame_off q p fs h) ∙ frames-off q h ps fs

@@ -6,8 +6,8 @@ use Rattle.types.specs.declared.Address.{Address}
 use Rattle.types.specs.declared.InlineFrame.{InlineFrame}
 use Rattle.linetab.specs.declared.LineTableRow.{LineTableRow}
 use Rattle.linetab.specs.Rows.{line_row}
-use Rattle.inline.specs.Block.{Block, listed, refused, block_of}
-use Rattle.inline.proofs.Answers.{block_room}
+use Rattle.inline.specs.Block.{Block, block_of}
+use Rattle.inline.proofs.Demand.{block_room}
 use Rattle.resolver.specs.Data.{Piece}
 use Rattle.resolver.specs.Heard.{Ask, Heard, known, fault, after_line, after_block, hear_row, hear_frames, hear}
 use Rattle.resolver.specs.Stages.{as_heard, line_heard}
@@ -140,8 +140,8 @@ module _ (q : Ask) (p : Piece) where
           Roomy q.room (if b then if c then after_block go k else go [] else go [])
       tested false c k e = h [] l
       tested true false k e = h [] l
-      tested true true (listed fs) e = h fs (block_room q.symbol.0 q.addr.0 q.room p.bytes fs e)
-      tested true true (refused n) e = omega arith
+      tested true true (Ok fs) e = h fs (block_room q.symbol.0 q.addr.0 q.room p.bytes fs e)
+      tested true true (Err n) e = omega arith
 
 hear-roomy :
     (q : Ask) (ps : List Piece) (r : Option LineTableRow) (fs : List InlineFrame) → length fs ≤ q.room →

@@ -1,6 +1,8 @@
 -- Where an address lands: each way out of the code is the case of its definition; and what the whole lookup says by it.
 -- Assumes nothing.
-use Rattle.std.proofs.Common.{Some, None, Ok, Err, Option, Result, ℕ, Bool, true, false, List, ◌≡◌, refl, ap, sym, if◌then◌else◌}
+use Rattle.std.proofs.Common.{Some, None, Ok, Err, Option, Result, ℕ, Bool, true, false, List, ◌≡◌, refl, ap, sym, subst}
+use Rattle.reads.specs.Steps.{◌>>=◌, ◌>>◌, need, given}
+use Rattle.reads.proofs.Steps.{bind_ok, need_ok, given_ok, ok_is}
 use Rattle.types.specs.declared.Address.{Address}
 use Rattle.types.specs.declared.Options.{Options}
 use Rattle.types.specs.declared.Text.{Text}
@@ -18,53 +20,11 @@ use Rattle.resolver.specs.Heard.{ask}
 use Rattle.resolver.specs.Says.{say_more, say_of}
 use Rattle.resolver.specs.Spell.{refusing, spell_text, spell}
 use Rattle.resolver.specs.Lookup.{answer_of, answer_at, after_found, after_opened, lookup_of}
-use Rattle.resolver.specs.Stages.{on_name, on_info, entry_at, land_on, land_found, land_opened, landing_of}
-use Rattle.resolver.proofs.Books.{never, name-is, name-unread}
-
--- ---- an entry
+use Rattle.resolver.specs.Stages.{entry_at, landing_of}
+use Rattle.resolver.proofs.Books.{name-is, name-unread}
 
 abbrev pub entered : Address → AddrInfo → Text → Entry
 entered symbol a name = record { symbol = symbol; size = a.size; name = name; items = a.items }
-
-module _ (file : List ℕ) (t : Tables) (i : ℕ) (addr symbol : Address) (s : symbol ≡ symbol_at file t i) where
-  pub entry-unread : info_at file t i ≡ None → Err 5 ≡ entry_at file t i addr
-  unfolding entry_at on_info
-  entry-unread e = rw e
-
-  module _ (a : AddrInfo) (e : info_at file t i ≡ Some a) where
-    pub entry_past : covered_by addr symbol a.size ≡ false → Err 1 ≡ entry_at file t i addr
-    unfolding entry_at on_info
-    entry_past c = rw (e, ← s, c)
-
-    module _ (c : covered_by addr symbol a.size ≡ true) where
-      pub entry-no-name :
-          name_at file t.strings a.name ≡ None → Err 6 ≡ entry_at file t i addr
-      unfolding entry_at on_info on_name
-      entry-no-name n = rw (e, ← s, c, n)
-
-      pub entry-is :
-          (name : Text) → name_at file t.strings a.name ≡ Some name →
-          Ok (entered symbol a name) ≡ entry_at file t i addr
-      unfolding entry_at on_info on_name
-      entry-is name n = rw (e, ← s, c, n)
-
--- ---- the landing
-
-module _ (file : List ℕ) (addr : Address) where
-  pub land-refused : (n : ℕ) → opened_of file ≡ Err n → Err n ≡ landing_of file addr
-  unfolding landing_of land_opened
-  land-refused n o = rw o
-
-  module _ (t : Tables) (o : opened_of file ≡ Ok t) where
-    pub land-unknown : find_of file t addr ≡ None → Err 1 ≡ landing_of file addr
-    unfolding landing_of land_opened land_found
-    land-unknown f = rw (o, f)
-
-    pub land-entry :
-        (i : ℕ) (r : Result Entry ℕ) → find_of file t addr ≡ Some i → r ≡ entry_at file t i addr →
-        land_on t r ≡ landing_of file addr
-    unfolding landing_of land_opened land_found
-    land-entry i r f e = rw (o, f, e)
 
 -- ---- what a lookup says by it
 
@@ -107,102 +67,85 @@ module _ (file : List ℕ) (addr : Address) (t : Tables) (o : opened_of file ≡
         says = λ p room. rw (o, f, e, c, q.0);
       }
 
-module _ (file : List ℕ) (addr : Address) (u : Tables) (d : Entry) where
-  refused-on : (n : ℕ) {A : Type 0} → ◌≡◌ {A = Result (Tables × Entry) ℕ} (Err n) (Ok (u, d)) → A
-  refused-on n h = let z : ◌≡◌ {A = ℕ} 0 1 = cc in never z
-
-  module _ (t : Tables) (o : opened_of file ≡ Ok t) where
-    module _ (i : ℕ) (f : find_of file t addr ≡ Some i) where
-      module _ (a : AddrInfo) (e : info_at file t i ≡ Some a) where
-        by_name :
-            covered_by addr (symbol_at file t i) a.size ≡ true →
-            (r : Option Text) → name_at file t.strings a.name ≡ r →
-            land_on t (on_name (symbol_at file t i) a r) ≡ Ok (u, d) → Landed file addr u d
-        unfolding on_name
-        by_name c (Some name) n h =
-            let r : ◌≡◌ {A = Tables × Entry} (u, d) (t, entered (symbol_at file t i) a name) = cc in
-            let p : t ≡ u = sym (ap (λ (x, y). x) r) in
-            let q : entered (symbol_at file t i) a name ≡ d = sym (ap (λ (x, y). y) r) in
-            rw (← p, ← q) (entry-landed file addr t o i f a e c name n)
-        by_name c None n h = refused-on 6 h
-
-        by_size :
-            (b : Bool) → covered_by addr (symbol_at file t i) a.size ≡ b →
-            land_on t (if b then on_name (symbol_at file t i) a (name_at file t.strings a.name) else Err 1)
-            ≡ Ok (u, d) →
-            Landed file addr u d
-        by_size true c h = by_name c (name_at file t.strings a.name) refl h
-        by_size false c h = refused-on 1 h
-
-      by-info :
-          (r : Option AddrInfo) → info_at file t i ≡ r → land_on t (on_info file t (symbol_at file t i) addr r) ≡ Ok (u, d) →
-          Landed file addr u d
-      unfolding on_info
-      by-info (Some a) e h = by_size a e (covered_by addr (symbol_at file t i) a.size) refl h
-      by-info None e h = refused-on 5 h
-
-    by-found :
-        (r : Option ℕ) → find_of file t addr ≡ r → land_found file t addr r ≡ Ok (u, d) → Landed file addr u d
-    unfolding land_found entry_at
-    by-found (Some i) f h = by-info i f (info_at file t i) refl h
-    by-found None f h = refused-on 1 h
-
-  by-opened : (r : Result Tables ℕ) → opened_of file ≡ r → land_opened file addr r ≡ Ok (u, d) → Landed file addr u d
-  unfolding land_opened
-  by-opened (Ok t) o h = by-found t o (find_of file t addr) refl h
-  by-opened (Err n) o h = refused-on n h
-
-  pub landed : landing_of file addr ≡ Ok (u, d) → Landed file addr u d
-  unfolding landing_of
-  landed h = by-opened (opened_of file) refl h
+pub landed :
+    (file : List ℕ) (addr : Address) (u : Tables) (d : Entry) → landing_of file addr ≡ Ok (u, d) → Landed file addr u d
+unfolding landing_of entry_at
+landed file addr u d h =
+    let t = bind_ok (opened_of file) _ (u, d) h in
+    let i = bind_ok (given 1 (find_of file t.0 addr)) _ (u, d) t.2 in
+    let e = bind_ok (entry_at file t.0 i.0 addr) _ (u, d) i.2 in
+    let a = bind_ok (given 5 (info_at file t.0 i.0)) _ e.0 e.1 in
+    let c = need_ok (covered_by addr (symbol_at file t.0 i.0) a.0.size) _ _ e.0 a.2 in
+    let n = bind_ok (given 6 (name_at file t.0.strings a.0.name)) _ e.0 c.1 in
+    let q = ok_is (t.0, e.0) (u, d) e.2 in
+    subst (λ (x : Tables × Entry). Landed file addr x.0 x.1) q
+    (subst (λ (x : Entry). Landed file addr t.0 x) (ok_is _ _ n.2)
+    (entry-landed file addr t.0 t.1 i.0 (given_ok 1 _ _ i.1) a.0 (given_ok 5 _ _ a.1) c.0 n.0 (given_ok 6 _ _ n.1)))
 
 -- ---- a refusal is the lookup's
 
 module _ (file : List ℕ) (addr : Address) (k : ℕ) (p : Options) (room : ℕ) where
-  on-refused : (t : Tables) (d : Entry) {A : Type 0} → ◌≡◌ {A = Result (Tables × Entry) ℕ} (Ok (t, d)) (Err k) → A
-  on-refused t d h = let z : ◌≡◌ {A = ℕ} 0 1 = cc in never z
-
-  same : (n : ℕ) → ◌≡◌ {A = Result (Tables × Entry) ℕ} (Err n) (Err k) → n ≡ k
+  same : {A : Type 0} (n : ℕ) → ◌≡◌ {A = Result A ℕ} (Err n) (Err k) → n ≡ k
   same n h = cc
 
   module _ (t : Tables) (w : Within file t) (symbol : Address) where
-    module _ (a : AddrInfo) where
-      no_name :
-          covered_by addr symbol a.size ≡ true → (r : Option Text) → name_at file t.strings a.name ≡ r →
-          land_on t (on_name symbol a r) ≡ Err k →
-          answer_of file t symbol addr p room (is (data_from file a)) ≡ refusing k
-      unfolding on_name answer_of say_of spell
-      no_name c (Some name) n h = on-refused t (entered symbol a name) h
-      no_name c None n h = rw (c, name-unread file t w a.name n) (ap refusing (same 6 h))
+    no_name :
+        (a : AddrInfo) → covered_by addr symbol a.size ≡ true → (r : Option Text) → name_at file t.strings a.name ≡ r →
+        (given 6 r >>= λ name. Ok (entered symbol a name)) ≡ Err k →
+        answer_of file t symbol addr p room (is (data_from file a)) ≡ refusing k
+    unfolding answer_of say_of spell
+    no_name a c (Some name) n h = absurd cc
+    no_name a c None n h = rw (c, name-unread file t w a.name n) (ap refusing (same {A = Entry} 6 h))
 
-      no_cover :
-          (b : Bool) → covered_by addr symbol a.size ≡ b →
-          land_on t (if b then on_name symbol a (name_at file t.strings a.name) else Err 1) ≡ Err k →
-          answer_of file t symbol addr p room (is (data_from file a)) ≡ refusing k
-      unfolding answer_of say_of spell
-      no_cover true c h = no_name c (name_at file t.strings a.name) refl h
-      no_cover false c h = rw c (ap refusing (same 1 h))
+    no_cover :
+        (a : AddrInfo) (b : Bool) → covered_by addr symbol a.size ≡ b →
+        (need b 1 >> (given 6 (name_at file t.strings a.name) >>= λ name. Ok (entered symbol a name))) ≡ Err k →
+        answer_of file t symbol addr p room (is (data_from file a)) ≡ refusing k
+    unfolding answer_of say_of spell
+    no_cover a true c h = no_name a c (name_at file t.strings a.name) refl h
+    no_cover a false c h = rw c (ap refusing (same {A = Entry} 1 h))
 
     no-info :
-        (r : Option AddrInfo) → land_on t (on_info file t symbol addr r) ≡ Err k →
-        answer_of file t symbol addr p room (as_data file r) ≡ refusing k
-    unfolding on_info answer_of
+        (r : Option AddrInfo) →
+        (do
+          a ← given 5 r
+          need (covered_by addr symbol a.size) 1
+          name ← given 6 (name_at file t.strings a.name)
+          Ok (entered symbol a name))
+        ≡ Err k → answer_of file t symbol addr p room (as_data file r) ≡ refusing k
+    unfolding answer_of
     no-info (Some a) h = no_cover a (covered_by addr symbol a.size) refl h
-    no-info None h = ap refusing (same 5 h)
+    no-info None h = ap refusing (same {A = Entry} 5 h)
+
+  -- the tables don't change a refusal
+  abbrev with_tables : Tables → Result Entry ℕ → Result (Tables × Entry) ℕ
+  with_tables t x = do
+    e ← x
+    Ok (t, e)
+
+  beside : (t : Tables) (x : Result Entry ℕ) → with_tables t x ≡ Err k → x ≡ Err k
+  beside t (Ok e) h = absurd cc
+  beside t (Err n) h = ap Err (same {A = Tables × Entry} n h)
 
   no-entry :
-      (t : Tables) → Within file t → (r : Option ℕ) → land_found file t addr r ≡ Err k →
+      (t : Tables) → Within file t → (r : Option ℕ) →
+      (given 1 r >>= λ i. with_tables t (entry_at file t i addr)) ≡ Err k →
       after_found file t addr p room r ≡ refusing k
-  unfolding land_found entry_at after_found answer_at data_of
-  no-entry t w (Some i) h = no-info t w (symbol_at file t i) (info_at file t i) h
-  no-entry t w None h = ap refusing (same 1 h)
+  unfolding entry_at after_found answer_at data_of
+  no-entry t w (Some i) h =
+      no-info t w (symbol_at file t i) (info_at file t i) (beside t (entry_at file t i addr) h)
+  no-entry t w None h = ap refusing (same {A = Tables × Entry} 1 h)
 
   no-tables :
-      (r : Result Tables ℕ) → opened_of file ≡ r → land_opened file addr r ≡ Err k →
-      after_opened file addr p room r ≡ refusing k
-  unfolding land_opened after_opened
+      (r : Result Tables ℕ) → opened_of file ≡ r →
+      (do
+        t ← r
+        i ← given 1 (find_of file t addr)
+        with_tables t (entry_at file t i addr))
+      ≡ Err k → after_opened file addr p room r ≡ refusing k
+  unfolding after_opened
   no-tables (Ok t) o h = no-entry t (tables-within file t o) (find_of file t addr) h
-  no-tables (Err n) o h = ap refusing (same n h)
+  no-tables (Err n) o h = ap refusing (same {A = Tables × Entry} n h)
 
 module _ (file : List ℕ) (addr : Address) where
   pub not-landed :

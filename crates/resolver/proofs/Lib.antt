@@ -4,7 +4,7 @@ pub mod Positions
 pub mod Rowing
 pub mod Landings
 pub mod Plainly
-pub mod Frames
+pub mod Tolds
 pub mod Hearing
 pub mod Turns
 pub mod Lifts

@@ -5,7 +5,8 @@ use Rattle.types.specs.declared.Address.{Address}
 use Rattle.types.specs.declared.Options.{Options}
 use Rattle.types.specs.declared.InlineFrame.{InlineFrame}
 use Rattle.linetab.specs.Rows.{line_row}
-use Rattle.inline.specs.Block.{Block, listed, refused}
+use Rattle.types.specs.declared.Refusal.TheVariants.{TooManyFrames}
+use Rattle.inline.specs.Block.{Block}
 use Rattle.inline.proofs.MoreRoom.{block_more}
 use Rattle.parser.specs.declared.Tables.{Tables}
 use Rattle.parser.specs.Header.{opened_of}
@@ -52,10 +53,10 @@ module _ (room more : ℕ) (l : room ≤ more) (symbol addr : Address) (inlining
   -- an inline block
   module _ (few many : List InlineFrame → Heard) (h : (fs : List InlineFrame) → Or (fault 14) (few fs) (many fs)) where
     same_block : (b : Block) → Or (fault 14) (after_block few b) (after_block many b)
-    same_block (listed fs) = h fs
-    same_block (refused n) = inr refl
+    same_block (Ok fs) = h fs
+    same_block (Err n) = inr refl
 
-    block-or : (b c : Block) → (b ≡ refused 14) ⊎ (b ≡ c) → Or (fault 14) (after_block few b) (after_block many c)
+    block-or : (b c : Block) → (b ≡ Err TooManyFrames) ⊎ (b ≡ c) → Or (fault 14) (after_block few b) (after_block many c)
     block-or b c (inl e) = inl (ap (after_block few) e)
     block-or b c (inr e) =
         subst (λ (x : Block). Or (fault 14) (after_block few x) (after_block many c)) (sym e) (same_block c)

@@ -1,27 +1,27 @@
 -- Which numbers a lookup can give: at most 14, at most 6 without code info, at most 9 without inlining; and which of
 -- them come from which stage.
 -- Assumes nothing.
-use Rattle.std.proofs.Common.{Some, None, Ok, Err, Option, Result, ℕ, ◌+◌, ◌*◌, ◌≤◌, ◌<◌, Bool, true, false, List, ◌≡◌, refl, ◌⊎◌, inl, inr, ⊎_elim, leb, eqb, length, arith, if◌then◌else◌}
+use Rattle.std.proofs.Common.{Some, None, Ok, Err, Option, Result, ℕ, ◌+◌, ◌*◌, ◌≤◌, ◌<◌, true, false, List, ◌≡◌, refl, subst, ◌⊎◌, inl, inr, ⊎_elim, leb, eqb, length, arith}
+use Rattle.reads.specs.Steps.{given}
+use Rattle.reads.proofs.Steps.{through, through_need}
 use Rattle.reads.specs.Answers.{u16_at, u32_at}
 use Rattle.std.proofs.lemmas.Bool.{cases_lt}
 use Rattle.types.specs.declared.Address.{Address}
 use Rattle.types.specs.declared.Options.{Options}
 use Rattle.parser.specs.declared.Tables.{Tables}
 use Rattle.parser.specs.Numbers.{num_at}
-use Rattle.parser.specs.Header.{numbers_of, file_count_place, files_place, tables_with, with_files, tables_of}
-use Rattle.parser.specs.Header.{after_version, on_version, on_magic, opened_of}
+use Rattle.parser.specs.Header.{numbers_of, file_count_place, files_place, tables_with, tables_of, opened_of}
 use Rattle.parser.specs.Search.{find_of, Nowhere}
 use Rattle.parser.specs.Entries.{symbol_at, covered_by}
 use Rattle.inline.proofs.Numbers.{never}
+use Rattle.resolver.specs.Met.{Unplaced, Asked, Unsaid, uncovered, unnamed, unheard, unplaced, first-unnamed, uncalled, Met, unopened, nowhere, no-data, unsaid}
 use Rattle.resolver.specs.Data.{Data, unread, is, data_of}
 use Rattle.resolver.specs.Book.{Book, book_of, reads_name}
 use Rattle.resolver.specs.Heard.{ask}
 use Rattle.resolver.specs.Lookup.{lookup_of}
-use Rattle.resolver.proofs.Causes.{Unplaced, unplaced-site, site-no, uncalled-calls, calls-no}
+use Rattle.resolver.proofs.Causes.{unplaced-site, site-no, uncalled-calls, calls-no}
 use Rattle.resolver.proofs.FirstBlocks.{heard-no, heard-off}
-use Rattle.resolver.proofs.Refusals.{Asked, Unsaid, uncovered, unnamed, unheard, unplaced, first-unnamed}
-use Rattle.resolver.proofs.Refusals.{uncalled}
-use Rattle.resolver.proofs.Refusals.{Met, unopened, nowhere, no-data, unsaid, lookup-met}
+use Rattle.resolver.proofs.Refusals.{lookup-met}
 
 -- ---- opening: 2, 3, 4
 
@@ -34,41 +34,28 @@ is-opens t n e = never (let z : ◌≡◌ {A = ℕ} 0 1 = cc in z)
 refused-opens : (m : ℕ) → 2 ≤ m → m ≤ 4 → Opens (Err m)
 refused-opens m l h n e = let q : m ≡ n = cc in (omega arith, omega arith)
 
-if-opens : (b : Bool) (x y : Result Tables ℕ) → Opens x → Opens y → Opens (if b then x else y)
-if-opens true x y h k = h
-if-opens false x y h k = k
-
 module _ (file : List ℕ) where
   two : Opens (Err 2)
   two = refused-opens 2 (omega arith) (omega arith)
 
-  files-opens : (n : ℕ) → Opens (with_files file (numbers_of file) n)
-  unfolding with_files
-  files-opens n =
-      let h = numbers_of file in
-      if-opens (leb (files_place h + n * 8) (length file)) _ _
-      (if-opens (leb (h.strings_offset + h.strings_size) (length file)) _ _ (is-opens (tables_with h n)) two)
-      two
-
-  version-opens : (r : Option ℕ) → Opens (on_version file r)
-  unfolding on_version after_version tables_of
-  version-opens (Some v) =
-      if-opens (eqb v 1) _ _
-      (if-opens (leb 48 (length file)) _ _
-      (if-opens (leb (files_place (numbers_of file)) (length file)) _ _
-      (files-opens (num_at 4 file (file_count_place (numbers_of file)))) two) two)
-      (refused-opens 4 (omega arith) (omega arith))
-  version-opens None = two
-
-  magic-opens : (r : Option ℕ) → Opens (on_magic file r)
-  unfolding on_magic
-  magic-opens (Some m) =
-      if-opens (eqb m 0x4753594d) _ _ (version-opens (u16_at file 4)) (refused-opens 3 (omega arith) (omega arith))
-  magic-opens None = two
+  short-opens : (o : Option ℕ) (e : ℕ) → given 2 o ≡ Err e → Opens (Err e)
+  short-opens (Some x) e q = absurd cc
+  short-opens None e q = let z : 2 ≡ e = cc in subst (λ (n : ℕ). Opens (Err n)) z two
 
   pub opened-no : (n : ℕ) → opened_of file ≡ Err n → (2 ≤ n) × (n ≤ 4)
-  unfolding opened_of
-  opened-no = magic-opens (u32_at file 0)
+  unfolding opened_of tables_of
+  opened-no =
+      let h = numbers_of file in
+      let files = num_at 4 file (file_count_place h) in
+      through Opens (given 2 (u32_at file 0)) _ (short-opens (u32_at file 0))
+      (λ magic _. through_need Opens (eqb magic 0x4753594d) 3 _ (refused-opens 3 (omega arith) (omega arith))
+      (λ _. through Opens (given 2 (u16_at file 4)) _ (short-opens (u16_at file 4))
+      (λ version _. through_need Opens (eqb version 1) 4 _ (refused-opens 4 (omega arith) (omega arith))
+      (λ _. through_need Opens (leb 48 (length file)) 2 _ two
+      (λ _. through_need Opens (leb (files_place h) (length file)) 2 _ two
+      (λ _. through_need Opens (leb (files_place h + files * 8) (length file)) 2 _ two
+      (λ _. through_need Opens (leb (h.strings_offset + h.strings_size) (length file)) 2 _ two
+      (λ _. is-opens (tables_with h files)))))))))
 
 -- ---- what an entry says: 1, 6, and with code info 7 to 14
 

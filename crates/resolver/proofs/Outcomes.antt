@@ -10,6 +10,8 @@ use Rattle.parser.specs.Header.{opened_of}
 use Rattle.parser.specs.Search.{find_of}
 use Rattle.parser.specs.Entries.{symbol_at, covered_by}
 use Rattle.inline.proofs.Numbers.{never}
+use Rattle.resolver.specs.Blocks.{Entered}
+use Rattle.resolver.specs.Met.{heard_of, Asked}
 use Rattle.resolver.specs.Data.{Data, DataRead, is, unread, data_of}
 use Rattle.resolver.specs.Book.{Book, book_of, reads_name}
 use Rattle.resolver.specs.Heard.{ask, Heard, known, fault}
@@ -18,7 +20,6 @@ use Rattle.resolver.specs.Says.{Position, at, absent, Said, says, refuses, upper
 use Rattle.resolver.specs.Says.{with_calls, with_frames, after_heard, say_more, say_of}
 use Rattle.resolver.specs.Spell.{Looked, refusing, spell}
 use Rattle.resolver.specs.Lookup.{answer_of, answer_at, after_found, after_opened, lookup_of}
-use Rattle.resolver.proofs.Refusals.{heard_of, Asked}
 
 -- ---- what an entry says, where it isn't a refusal
 
@@ -97,15 +98,6 @@ module _ (b : Book) (symbol : Address) (d : Data) (addr : Address) (o : Options)
         go true c true m e = more-made c m o.code_info refl e
 
 -- ---- a whole lookup
-
--- the entry that an address lands on, and what its data say
-pub record Entered (file : List ℕ) (addr : Address) : Type 0 where
-  pub tables : Tables
-  pub index : ℕ
-  pub data-of : Data
-  pub opens : opened_of file ≡ Ok tables
-  pub finds : find_of file tables addr ≡ Some index
-  pub reads : data_of file tables index ≡ is data-of
 
 abbrev pub entered_says : {file : List ℕ} {addr : Address} → Entered file addr → Options → ℕ → Said
 entered_says {file = file} {addr = addr} L o room =

@@ -1,77 +1,87 @@
--- Source positions: each way out of the code is the case of its definition.
+-- A position and a frame, read in the file, are those of the book, spelt.
 -- Assumes nothing.
-use Rattle.std.proofs.Common.{Some, None, Ok, Err, Option, ℕ, List, ◌≡◌, sym, ◌∙◌}
-use Rattle.types.specs.declared.FileIndex.{FileIndex}
-use Rattle.types.specs.declared.LineNumber.{LineNumber}
+use Rattle.std.proofs.Common.{Some, None, Ok, Err, Option, Result, ℕ, List, Bool, true, false, ◌≡◌, refl, if◌then◌else◌}
+use Rattle.reads.specs.Steps.{◌>>=◌, given}
 use Rattle.types.specs.declared.Text.{Text}
+use Rattle.types.specs.declared.Frame.{Frame}
 use Rattle.types.specs.declared.InlineFrame.{InlineFrame}
-use Rattle.strtab.specs.Strings.{text_at, name_at}
+use Rattle.strtab.specs.Strings.{text_at}
 use Rattle.parser.specs.declared.Tables.{Tables}
 use Rattle.parser.specs.declared.FileInfo.{FileInfo}
 use Rattle.parser.specs.Header.{Within}
-use Rattle.parser.specs.Entries.{file_at}
 use Rattle.resolver.specs.declared.Place.{Place}
-use Rattle.resolver.specs.Book.{book_of, nth_file}
-use Rattle.resolver.specs.Says.{site_in, site_of}
-use Rattle.resolver.specs.Stages.{record_of, place_at, call_at}
-use Rattle.resolver.proofs.Books.{file-in-book, text-is, text-unread, name-is, name-unread}
+use Rattle.resolver.specs.Book.{Book, book_of, nth_file, reads_text, reads_name}
+use Rattle.resolver.specs.Says.{Site, SiteRead, is, no, site_in, site_of}
+use Rattle.resolver.specs.Spell.{spell_text}
+use Rattle.resolver.specs.Stages.{place, place_at, record_of, call_at}
+use Rattle.resolver.proofs.Books.{file-in-book, text_in-book, name-in-book}
+
+-- a position, its offsets spelt
+abbrev pub spell_site : Book → ℕ → Site → Place
+spell_site b p s = place (spell_text b p s.dir) (spell_text b p s.file) s.line
+
+abbrev pub spell_read : Book → ℕ → SiteRead → Result Place ℕ
+spell_read b p (is s) = Ok (spell_site b p s)
+spell_read b p (no n) = Err n
+
+abbrev pub at_call : Text → Result Place ℕ → Result Frame ℕ
+at_call name p = p >>= λ p. Ok (record_of name p)
 
 module _ (file : List ℕ) (t : Tables) (w : Within file t) where
-  module _ (index : FileIndex) (line : LineNumber) where
-    in-book : (r : Option FileInfo) → file_at file t index ≡ r → nth_file (book_of file t).files index.0 ≡ r
-    in-book r e = sym (file-in-book file t w index) ∙ e
+  abbrev book : Book
+  book = book_of file t
 
-    -- no such file: 7
-    pub site-none : file_at file t index ≡ None → Err 7 ≡ place_at file t index.0 line.0
-    unfolding place_at site_of site_in
-    site-none e = rw (in-book None e)
+  abbrev start : ℕ
+  start = t.strings.place
 
-    module _ (r : FileInfo) (e : file_at file t index ≡ Some r) where
-      -- its directory, then its file: 8
-      pub site-no-dir :
-          text_at file t.strings r.directory ≡ None → Err 8 ≡ place_at file t index.0 line.0
-      unfolding place_at site_of site_in
-      site-no-dir d = rw (in-book (Some r) e, text-unread file t w r.directory d)
+  pub place-is : (index line : ℕ) → place_at file t index line ≡ spell_read book start (site_of book index line)
+  unfolding place_at site_of site_in
+  place-is index line = rw (file-in-book file t w (record { 0 = index })) (by-row (nth_file book.files index))
+    where
+      by-texts :
+          (a b : Bool) (r : FileInfo) →
+          (do
+            dir ← given 8 (if a then Some (spell_text book start r.directory.0) else None)
+            name ← given 8 (if b then Some (spell_text book start r.filename.0) else None)
+            Ok (place dir name line))
+          ≡ spell_read book start
+          (if a
+          then (if b then is (record { dir = r.directory.0; file = r.filename.0; line = line }) else no 8)
+          else no 8)
+      by-texts true true r = refl
+      by-texts true false r = refl
+      by-texts false b r = refl
 
-      module _ (dir : Text) (d : text_at file t.strings r.directory ≡ Some dir) where
-        pub site-no-file :
-            text_at file t.strings r.filename ≡ None →
-            Err 8 ≡ place_at file t index.0 line.0
-        unfolding place_at site_of site_in
-        site-no-file f =
-            rw (
-              in-book (Some r) e,
-              (text-is file t w r.directory dir d).0,
-              text-unread file t w r.filename f,
-            )
+      by-row :
+          (o : Option FileInfo) →
+          (do
+            row ← given 7 o
+            dir ← given 8 (text_at file t.strings row.directory)
+            name ← given 8 (text_at file t.strings row.filename)
+            Ok (place dir name line))
+          ≡ spell_read book start (site_in book line o)
+      by-row (Some r) =
+          rw (text_in-book file t w r.directory, text_in-book file t w r.filename)
+          (by-texts (reads_text book r.directory.0) (reads_text book r.filename.0) r)
+      by-row None = refl
 
-        pub site-is :
-            (name : Text) → text_at file t.strings r.filename ≡ Some name →
-            Ok (record { dir = dir; file = name; line = line }) ≡ place_at file t index.0 line.0
-        unfolding place_at site_of site_in
-        site-is name f =
-            let p = text-is file t w r.directory dir d in
-            let q = text-is file t w r.filename name f in
-            rw (in-book (Some r) e, p.0, q.0, p.1, q.1)
-
-  module _ (f : InlineFrame) where
-    -- a frame's name: 6
-    pub call-no-name : name_at file t.strings f.name ≡ None → Err 6 ≡ call_at file t f
-    unfolding call_at
-    call-no-name n = rw (name-unread file t w f.name n)
-
-    -- then the position of its call
-    module _ (name : Text) (n : name_at file t.strings f.name ≡ Some name) where
-      pub call-no-site :
-          (k : ℕ) → Err k ≡ place_at file t f.call_file.0 f.call_line.0 →
-          Err k ≡ call_at file t f
-      unfolding call_at
-      call-no-site k e = rw ((name-is file t w f.name name n).0, ← e)
-
-      pub call-is :
-          (p : Place) → Ok p ≡ place_at file t f.call_file.0 f.call_line.0 →
-          Ok (record_of name p) ≡ call_at file t f
-      unfolding call_at
-      call-is p e =
-          let q = name-is file t w f.name name n in
-          rw (q.0, ← e, q.1)
+  pub call-is :
+      (f : InlineFrame) →
+      call_at file t f
+      ≡ (if reads_name book f.name.0
+      then at_call (spell_text book start f.name.0) (spell_read book start (site_of book f.call_file.0 f.call_line.0))
+      else Err 6)
+  unfolding call_at
+  call-is f =
+      rw (name-in-book file t w f.name, place-is f.call_file.0 f.call_line.0)
+      (go (reads_name book f.name.0) (spell_read book start (site_of book f.call_file.0 f.call_line.0)))
+    where
+      go :
+          (b : Bool) (p : Result Place ℕ) →
+          (do
+            name ← given 6 (if b then Some (spell_text book start f.name.0) else None)
+            p ← p
+            Ok (record_of name p))
+          ≡ (if b then at_call (spell_text book start f.name.0) p else Err 6)
+      go true p = refl
+      go false p = refl

@@ -1,179 +1,101 @@
 -- The answer under a frame's name from its parts: each way out of `renamed`.
 -- Assumes nothing.
-use Rattle.std.proofs.Common.{Some, None, Ok, Err, Option, Result, ℕ, ◌+◌, ◌-◌, ◌<◌, List, [], ◌∷◌, ◌++◌, ◌≡◌, refl, sym, ap, ◌∙◌, length, length-append, arith}
+use Rattle.std.proofs.Common.{Some, None, Ok, Err, Option, Result, ℕ, ◌-◌, ◌<◌, List, [], ◌∷◌, ◌≡◌, refl, sym, ap, ◌∙◌, length, get_or, take, drop, length-drop, arith}
+use Rattle.std.proofs.lemmas.List.{nil_from_length, drop_more}
+use Rattle.std.proofs.Math.ListN.{drop_of_length-le}
+use Rattle.std.proofs.Math.Seq.{take-length}
 use Rattle.types.specs.declared.Text.{Text}
 use Rattle.types.specs.declared.Frame.{Frame}
 use Rattle.types.specs.declared.Answer.{Answer}
 use Rattle.types.specs.declared.InlineFrame.{InlineFrame}
-use Rattle.types.specs.Refusal.{refusal}
 use Rattle.strtab.specs.Strings.{name_at}
-use Rattle.inline.specs.Store.{frame_at}
 use Rattle.parser.specs.declared.Tables.{Tables}
 use Rattle.parser.specs.Header.{Within}
 use Rattle.resolver.specs.declared.Entry.{Entry}
 use Rattle.resolver.specs.declared.Place.{Place}
 use Rattle.resolver.specs.Spell.{Looked, refusing}
-use Rattle.resolver.specs.Stages.{record_of, place_in, call_at, answer_with}
-use Rattle.resolver.specs.Rows.{
-  flat_frames,
-  frames_from,
-  Lifted,
-  lifted,
-  no,
-  then_lift,
-  lift,
-  as_risen,
-  lifted_frames,
-  lift_all,
-  Rises,
-  after_lift,
-  after_first,
-  with_later,
-  with_named,
-  Wrote,
-}
-use Rattle.resolver.proofs.Books.{never, name-is, name-unread}
-use Rattle.resolver.proofs.Frames.{from_first, from-none, from-length}
-
--- ---- answers without records
-
-pub wrote_none :
-    (l : Looked) (entry exit : List ℕ) (r : Answer) → r ≡ l.answer → l.answer.count ≡ 0 → l.frames ≡ [] →
-    length exit ≡ length entry → Wrote l entry exit r
-unfolding flat_frames
-wrote_none l entry exit r e z f k = record { says = e; records = rw (e, z, f) refl; kept = k }
-
-pub wrote-refused :
-    (l : Looked) (entry : List ℕ) (r : Answer) (n : ℕ) → l ≡ refusing n → r ≡ refusal n → Wrote l entry entry r
-wrote-refused l entry r n e q = rw e (wrote_none (refusing n) entry entry r q refl refl refl)
-
--- ---- how many records there are
-
-module _ (file : List ℕ) (t : Tables) (row : Place) where
-  lift-length :
-      (fs : List InlineFrame) (made : List Frame) (name : Text) (gs : List Frame) →
-      lift file t row made name fs ≡ lifted gs → length gs ≡ length made + 1 + length fs
-  unfolding lift
-  lift-length [] made name gs e =
-      let q : made ++ record_of name row ∷ [] ≡ gs = cc in
-      omega (arith, ap length q, length-append made (record_of name row ∷ []))
-  lift-length (f ∷ fs) made name gs e =
-      go (λ made name. lift-length fs made name gs) (call_at file t f) e
-    where
-      go :
-          ((made : List Frame) (name : Text) → lift file t row made name fs ≡ lifted gs →
-          length gs ≡ length made + 1 + length fs) →
-          (x : Result Frame ℕ) →
-          then_lift (λ g. lift file t row (made ++ record_of name (place_in g) ∷ []) g.name fs) x ≡ lifted gs →
-          length gs ≡ length made + 1 + length (f ∷ fs)
-      go h (Ok g) e =
-          omega (
-            arith,
-            h (made ++ record_of name (place_in g) ∷ []) g.name e,
-            length-append made (record_of name (place_in g) ∷ []),
-          )
-      go h (Err n) e = let z : ◌≡◌ {A = ℕ} 0 1 = cc in never z
-
-lifted-is : (l : Lifted) → Ok tt ≡ as_risen l → l ≡ lifted (lifted_frames l)
-unfolding lifted_frames
-lifted-is (lifted fs) e = refl
-lifted-is (no n) e = let z : ◌≡◌ {A = ℕ} 0 1 = cc in never z
-
-lifted-no : (l : Lifted) (n : ℕ) → Err n ≡ as_risen l → l ≡ no n
-lifted-no (lifted fs) n e = let z : ◌≡◌ {A = ℕ} 0 1 = cc in never z
-lifted-no (no m) n e = let q : n ≡ m = cc in ap no (sym q)
+use Rattle.resolver.specs.Stages.{place_in, call_at, answer_with}
+use Rattle.resolver.specs.Rows.{Lifted, lifted, no, lift, after_lift, after_first, with_later, with_named, looked}
+use Rattle.resolver.proofs.Books.{name-is, name-unread}
 
 -- ---- `renamed`
 
-module _ (file : List ℕ) (t : Tables) (w : Within file t) (e : Entry) (row : Place) (frames : List ℕ) (count : ℕ)
-    (some : 0 < count) (out : List ℕ) (x : Option Text)
-    (X : x ≡ name_at file t.strings (frame_at 0 frames).name) where
-  first : with_named file t e row (frames_from 0 count frames)
-      ≡ with_named file t e row (frame_at 0 frames ∷ frames_from 1 (count - 1) frames)
-  first = ap (with_named file t e row) (from_first 0 count frames some)
+module _ (file : List ℕ) (t : Tables) (w : Within file t) (e : Entry) (row : Place) (frames : List InlineFrame) where
+  abbrev named : Looked
+  named = with_named file t e row frames
 
-  -- the first frame's name doesn't read
-  pub renamed-unread :
-      x ≡ None → (r : Answer) → r ≡ refusal 6 →
-      Wrote (with_named file t e row (frames_from 0 count frames)) out out r
+  -- no frames
+  pub renamed-none :
+      length frames ≡ 0 → (r : Answer) → r ≡ answer_with e e.name row 0 → looked r [] ≡ with_named file t e row frames
   unfolding with_named
-  renamed-unread u r q =
-      wrote-refused _ out r 6 (first ∙ rw (name-unread file t w (frame_at 0 frames).name (sym X ∙ u)) refl) q
+  renamed-none z r q =
+      ap (λ (a : Answer). looked a []) q ∙ sym (ap (with_named file t e row) (nil_from_length frames z))
 
-  module _ (name : Text) (N : x ≡ Some name) where
-    under : with_named file t e row (frames_from 0 count frames)
-        ≡ with_later file t e name row (frames_from 1 (count - 1) frames)
+  module _ (some : 0 < length frames) (x : Option Text) (d : InlineFrame)
+      (X : x ≡ name_at file t.strings (get_or frames 0 d).name) where
+    first : with_named file t e row frames ≡ with_named file t e row (get_or frames 0 d ∷ drop 1 frames)
+    first = ap (with_named file t e row) (drop_more frames 0 d some)
+
+    -- the first frame's name doesn't read
+    pub renamed-unread : x ≡ None → refusing 6 ≡ with_named file t e row frames
     unfolding with_named
-    under =
-        let q = name-is file t w (frame_at 0 frames).name name (sym X ∙ N) in
-        first ∙ rw (q.0, q.1) refl
+    renamed-unread u = sym (first ∙ rw (name-unread file t w (get_or frames 0 d).name (sym X ∙ u)) refl)
 
-    -- no later frame
-    pub renamed-one :
-        count ≡ 1 → (r : Answer) → r ≡ answer_with e name row 0 →
-        Wrote (with_named file t e row (frames_from 0 count frames)) out out r
-    unfolding with_later
-    renamed-one o r q =
-        let s : with_named file t e row (frames_from 0 count frames)
-        ≡ record { answer = answer_with e name row 0; frames = [] } =
-        under ∙ ap (with_later file t e name row) (from-none 1 (count - 1) frames (omega arith)) in
-        rw s (wrote_none _ out out r q refl refl refl)
+    module _ (name : Text) (N : x ≡ Some name) where
+      under : with_named file t e row frames ≡ with_later file t e name row (drop 1 frames)
+      unfolding with_named
+      under =
+          let q = name-is file t w (get_or frames 0 d).name name (sym X ∙ N) in
+          first ∙ rw (q.0, q.1) refl
 
-    module _ (not-one : count ≡ 1 → ⊥) (y : Result Frame ℕ) (Y : y ≡ call_at file t (frame_at 1 frames)) where
-      onward : with_named file t e row (frames_from 0 count frames)
-          ≡ after_first file t e name row (frames_from 2 (count - 2) frames) y
+      -- no later frame
+      pub renamed-one :
+          length frames ≡ 1 → (r : Answer) → r ≡ answer_with e name row 0 →
+          looked r [] ≡ with_named file t e row frames
       unfolding with_later
-      onward =
-          let n : count - 1 - 1 ≡ count - 2 = omega arith in
-          under
-          ∙ ap (with_later file t e name row)
-          (from_first 1 (count - 1) frames (omega arith) ∙ ap (λ (j : ℕ). frame_at 1 frames ∷ frames_from 2 j frames) n)
-          ∙ ap (after_first file t e name row (frames_from 2 (count - 2) frames)) (sym Y)
+      renamed-one o r q =
+          ap (λ (a : Answer). looked a []) q
+          ∙ sym (under ∙ ap (with_later file t e name row) (drop_of_length-le frames {i = 1} (omega arith)))
 
-      -- its call site doesn't read
-      pub renamed-refused :
-          (n : ℕ) → y ≡ Err n → (r : Answer) → r ≡ refusal n →
-          Wrote (with_named file t e row (frames_from 0 count frames)) out out r
-      renamed-refused n u r q =
-          wrote-refused _ out r n
-          (onward ∙ ap (after_first file t e name row (frames_from 2 (count - 2) frames)) u) q
+      module _ (not-one : length frames ≡ 1 → ⊥) (y : Result Frame ℕ) (c : InlineFrame)
+          (Y : y ≡ call_at file t (get_or frames 1 c)) where
+        onward : with_named file t e row frames ≡ after_first file t e name row (drop 2 frames) y
+        unfolding with_later
+        onward =
+            under
+            ∙ ap (with_later file t e name row) (drop_more frames 1 c (omega arith))
+            ∙ ap (after_first file t e name row (drop 2 frames)) (sym Y)
 
-      module _ (g : Frame) (G : y ≡ Ok g) (z : Result (Unit {0}) ℕ) (exit : List ℕ)
-          (R : Rises file t frames count g.name row out exit z) where
-        risen-is : with_named file t e row (frames_from 0 count frames)
-            ≡ after_lift e name g (lift_all file t frames count g.name row)
-        risen-is = onward ∙ ap (after_first file t e name row (frames_from 2 (count - 2) frames)) G
+        -- its call site doesn't read
+        pub renamed-refused : (n : ℕ) → y ≡ Err n → refusing n ≡ with_named file t e row frames
+        renamed-refused n u = sym (onward ∙ ap (after_first file t e name row (drop 2 frames)) u)
 
-        -- that of a frame behind it doesn't
-        pub renamed-stopped :
-            (n : ℕ) → z ≡ Err n → (r : Answer) → r ≡ refusal n →
-            Wrote (with_named file t e row (frames_from 0 count frames)) out exit r
-        renamed-stopped n u r q =
-            let l = lifted-no (lift_all file t frames count g.name row) n (sym u ∙ R.says) in
-            let s : with_named file t e row (frames_from 0 count frames) ≡ refusing n =
-            risen-is ∙ ap (after_lift e name g) l in
-            rw s (wrote_none (refusing n) out exit r q refl refl R.kept)
+        module _ (g : Frame) (G : y ≡ Ok g) (l : Lifted) (made : List Frame)
+            (M : made ≡ []) (R : l ≡ lift file t row made g.name (take (length frames - 2) (drop 2 frames))) where
+          behind : take (length frames - 2) (drop 2 frames) ≡ drop 2 frames
+          behind =
+              let n : length frames - 2 ≡ length (drop 2 frames) = omega (arith, length-drop 2 frames) in
+              ap (λ (m : ℕ). take m (drop 2 frames)) n ∙ take-length (drop 2 frames)
 
-        -- all of them do
-        pub renamed-all :
-            z ≡ Ok tt → (p : Place) → p ≡ place_in g → (r : Answer) → r ≡ answer_with e name p (count - 1) →
-            Wrote (with_named file t e row (frames_from 0 count frames)) out exit r
-        renamed-all u p P r q =
-            let fs = lifted_frames (lift_all file t frames count g.name row) in
-            let l = lifted-is (lift_all file t frames count g.name row) (sym u ∙ R.says) in
-            let n : length fs ≡ count - 1 =
-            omega (
-              arith,
-              some,
-              not-one,
-              lift-length file t row (frames_from 2 (count - 2) frames) [] g.name fs l,
-              from-length 2 (count - 2) frames,
-            ) in
-            let s : with_named file t e row (frames_from 0 count frames)
-            ≡ record { answer = answer_with e name (place_in g) (length fs); frames = fs } =
-            risen-is ∙ ap (after_lift e name g) l in
-            record {
-              says = q ∙ rw (s, n, P) refl;
-              records = rw (s, q, ← n) R.records;
-              kept = R.kept;
-            }
+          risen : after_lift e name g l ≡ with_named file t e row frames
+          risen =
+              ap (after_lift e name g) R
+              ∙ ap (λ (hs : List Frame). after_lift e name g (lift file t row hs g.name (take (length frames - 2) (drop 2 frames)))) M
+              ∙ ap (λ (gs : List InlineFrame). after_lift e name g (lift file t row [] g.name gs))
+              behind
+              ∙ sym (onward ∙ ap (after_first file t e name row (drop 2 frames)) G)
+
+          -- that of a frame behind it doesn't
+          pub renamed-stopped : (n : ℕ) → l ≡ no n → refusing n ≡ with_named file t e row frames
+          renamed-stopped n u = ap (after_lift e name g) (sym u) ∙ risen
+
+          -- all of them do
+          pub renamed-all :
+              (fs : List Frame) → l ≡ lifted fs → (p : Place) → p ≡ place_in g →
+              (r : Answer) → r ≡ answer_with e name p (length fs) →
+              looked r fs ≡ with_named file t e row frames
+          renamed-all fs u p P r q =
+              ap (λ (a : Answer). looked a fs) q
+              ∙ ap (λ (p : Place). looked (answer_with e name p (length fs)) fs) P
+              ∙ ap (after_lift e name g) (sym u)
+              ∙ risen

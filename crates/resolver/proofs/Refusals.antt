@@ -8,58 +8,22 @@ use Rattle.types.specs.declared.InlineFrame.{InlineFrame}
 use Rattle.linetab.specs.declared.LineTableRow.{LineTableRow}
 use Rattle.parser.specs.declared.Tables.{Tables}
 use Rattle.parser.specs.Header.{opened_of}
-use Rattle.parser.specs.Search.{find_of, Nowhere}
+use Rattle.parser.specs.Search.{find_of}
 use Rattle.parser.specs.Entries.{symbol_at, covered_by}
 use Rattle.parser.proofs.Places.{tables-within}
 use Rattle.parser.proofs.Symbols.{find-unknown, unknown-find}
 use Rattle.inline.proofs.Numbers.{never}
 use Rattle.resolver.specs.Data.{Data, DataRead, is, unread, data_of}
 use Rattle.resolver.specs.Book.{Book, book_of, reads_name}
-use Rattle.resolver.specs.Heard.{ask, Heard, known, fault, hear}
-use Rattle.resolver.specs.Says.{Site, SiteRead, is, no, site_of, Calls, calls, calls_of, at, absent}
+use Rattle.resolver.specs.Heard.{ask, Heard, known, fault}
+use Rattle.resolver.specs.Says.{SiteRead, is, no, site_of, Calls, calls, calls_of, at, absent}
 use Rattle.resolver.specs.Says.{Said, says, refuses}
 use Rattle.resolver.specs.Says.{with_calls, with_frames, after_heard, say_more, say_of}
+use Rattle.resolver.specs.Met.{heard_of, Asked, Unsaid, uncovered, unnamed, unheard, unplaced, first-unnamed, uncalled, Met, unopened, nowhere, no-data, unsaid}
 use Rattle.resolver.specs.Spell.{refusing, spell}
 use Rattle.resolver.specs.Lookup.{answer_of, answer_at, after_found, after_opened, lookup_of}
-use Rattle.resolver.proofs.Causes.{Unplaced, site-unplaced, unplaced-site}
-use Rattle.resolver.proofs.Causes.{FirstUncalled, calls-uncalled, uncalled-calls}
-
--- what the items of an entry say at an address
-abbrev pub heard_of : Address → Data → Address → Options → ℕ → Heard
-heard_of symbol d addr o room = hear (ask symbol addr room o.inlining) d.items None []
-
--- the entry covers the address, its name reads, and code info is asked for
-pub record Asked (b : Book) (symbol : Address) (d : Data) (addr : Address) (o : Options) : Type 0 where
-  pub covered : covered_by addr symbol d.size ≡ true
-  pub named : reads_name b d.name ≡ true
-  pub code : o.code_info ≡ true
-
--- why what an entry says is a refusal, in the order of RULES
-pub data Unsaid (b : Book) (symbol : Address) (d : Data) (addr : Address) (o : Options) (room n : ℕ) : Type 0 where
-  uncovered : covered_by addr symbol d.size ≡ false → n ≡ 1 → Unsaid b symbol d addr o room n
-  unnamed : covered_by addr symbol d.size ≡ true → reads_name b d.name ≡ false → n ≡ 6 →
-      Unsaid b symbol d addr o room n
-  unheard : Asked b symbol d addr o → heard_of symbol d addr o room ≡ fault n → Unsaid b symbol d addr o room n
-  unplaced : (r : LineTableRow) (fs : List InlineFrame) → Asked b symbol d addr o →
-      heard_of symbol d addr o room ≡ known (Some r) fs → Unplaced b r.file_idx.0 n →
-      Unsaid b symbol d addr o room n
-  first-unnamed : (r : LineTableRow) (f : InlineFrame) (fs : List InlineFrame) (s : Site) → Asked b symbol d addr o →
-      heard_of symbol d addr o room ≡ known (Some r) (f ∷ fs) →
-      site_of b r.file_idx.0 r.file_line.0 ≡ is s → reads_name b f.name.0 ≡ false → n ≡ 6 →
-      Unsaid b symbol d addr o room n
-  uncalled : (r : LineTableRow) (f : InlineFrame) (fs : List InlineFrame) (s : Site) → Asked b symbol d addr o →
-      heard_of symbol d addr o room ≡ known (Some r) (f ∷ fs) →
-      site_of b r.file_idx.0 r.file_line.0 ≡ is s → reads_name b f.name.0 ≡ true →
-      FirstUncalled b fs n → Unsaid b symbol d addr o room n
-
--- why a lookup is a refusal, in the order of RULES
-pub data Met (file : List ℕ) (addr : Address) (o : Options) (room n : ℕ) : Type 0 where
-  unopened : opened_of file ≡ Err n → Met file addr o room n
-  nowhere : (t : Tables) → opened_of file ≡ Ok t → Nowhere file t addr → n ≡ 1 → Met file addr o room n
-  no-data : (t : Tables) (i : ℕ) → opened_of file ≡ Ok t → find_of file t addr ≡ Some i →
-      data_of file t i ≡ unread → n ≡ 5 → Met file addr o room n
-  unsaid : (t : Tables) (i : ℕ) (d : Data) → opened_of file ≡ Ok t → find_of file t addr ≡ Some i →
-      data_of file t i ≡ is d → Unsaid (book_of file t) (symbol_at file t i) d addr o room n → Met file addr o room n
+use Rattle.resolver.proofs.Causes.{site-unplaced, unplaced-site}
+use Rattle.resolver.proofs.Causes.{calls-uncalled, uncalled-calls}
 
 -- ---- what an entry says
 

@@ -1,12 +1,13 @@
 -- The count is the number of records, and records are fewer than the room, which counts the block's first frame as
 -- well; without inlining or code info there are none.
 -- Assumes nothing.
-use Rattle.std.proofs.Common.{Some, None, ℕ, suc, ◌+◌, ◌*◌, ◌≤◌, Bool, true, false, List, [], ◌∷◌, map, ◌≡◌, refl, sym, ap, ◌∙◌, ◌⊎◌, inl, inr, ⊎_elim, length, arith, if◌then◌else◌}
+use Rattle.std.proofs.Common.{Some, None, ℕ, suc, ◌+◌, ◌≤◌, Bool, true, false, List, [], ◌∷◌, map, ◌≡◌, refl, sym, ap, ◌∙◌, ◌⊎◌, inl, inr, ⊎_elim, length, arith, if◌then◌else◌}
 use Rattle.types.specs.declared.Address.{Address}
 use Rattle.types.specs.declared.Options.{Options}
 use Rattle.types.specs.declared.InlineFrame.{InlineFrame}
 use Rattle.inline.proofs.Numbers.{never}
-use Rattle.inline.proofs.Answers.{block_room}
+use Rattle.inline.proofs.Demand.{block_room}
+use Rattle.resolver.specs.Blocks.{Entered}
 use Rattle.resolver.specs.Data.{Data}
 use Rattle.resolver.specs.Book.{Book, book_of, reads_name}
 use Rattle.resolver.specs.Heard.{ask}
@@ -14,11 +15,10 @@ use Rattle.resolver.specs.Says.{Site, SiteRead, is, no, site_of, Call, Calls, ca
 use Rattle.resolver.specs.Says.{Position, at, absent, says, raised}
 use Rattle.resolver.specs.Spell.{Looked, spell_frame, spell}
 use Rattle.resolver.specs.Lookup.{lookup_of}
-use Rattle.resolver.specs.Rows.{records_in}
 use Rattle.resolver.proofs.Heards.{frames-off, heard-parts}
 use Rattle.resolver.proofs.FirstBlocks.{heard-frames}
 use Rattle.resolver.proofs.Outcomes.{Saying, unasked, no_row, no_frames, with-frames, say-saying}
-use Rattle.resolver.proofs.Outcomes.{Entered, entered_spells, Outcome, refused, said, outcome}
+use Rattle.resolver.proofs.Outcomes.{entered_spells, Outcome, refused, said, outcome}
 
 -- ---- as many records as later frames
 
@@ -150,12 +150,3 @@ module _ (file : List ℕ) (addr : Address) (o : Options) (room : ℕ) where
             frames-calls L size name p cs e ∙ ap (map (spell_frame _ _)) w,
             count-calls L size name p cs e ∙ ap length w,
           )
-
--- in a list of numbers that says the room, seven to a record, the records fit
-pub count_fits : (file : List ℕ) (addr : Address) (o : Options) (store : List ℕ) →
-    7 * (lookup_of file addr o (records_in store)).answer.count ≤ length store
-count_fits file addr o store =
-    ⊎_elim
-    (λ (z : (lookup_of file addr o (records_in store)).answer.count ≡ 0). omega arith)
-    (λ (l : (lookup_of file addr o (records_in store)).answer.count + 1 ≤ records_in store). omega arith)
-    (count_room file addr o (records_in store))

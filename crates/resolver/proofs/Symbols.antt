@@ -5,11 +5,12 @@ use Rattle.types.specs.declared.Address.{Address}
 use Rattle.types.specs.declared.Options.{Options}
 use Rattle.parser.specs.Entries.{symbol_at}
 use Rattle.parser.proofs.Symbols.{symbol-le}
+use Rattle.resolver.specs.Blocks.{Entered}
 use Rattle.resolver.specs.Book.{Book}
 use Rattle.resolver.specs.Says.{Call, Position, at, absent, says}
 use Rattle.resolver.specs.Spell.{Looked, spell}
 use Rattle.resolver.specs.Lookup.{lookup_of}
-use Rattle.resolver.proofs.Outcomes.{Entered, entered_spells, Outcome, refused, said, outcome}
+use Rattle.resolver.proofs.Outcomes.{entered_spells, Outcome, refused, said, outcome}
 
 spelt-address : (b : Book) (place : ℕ) (symbol : Address) (size name : ℕ) (p : Position) (cs : List Call) →
     (spell b place symbol (says size name p cs)).answer.addr ≡ symbol

@@ -1,14 +1,14 @@
 -- The marked examples T1 to T12 of RULES as one statement about the written definitions.
 -- Assumes nothing.
-use Rattle.std.specs.Prelude.{◌-◌, ◌^◌, [], ◌∷◌, ◌++◌, ◌≡◌, pos, neg_ℤ, replicate}
+use Rattle.std.specs.Prelude.{Ok, ◌-◌, ◌^◌, [], ◌∷◌, ◌++◌, ◌≡◌, pos, neg_ℤ, replicate}
 use Rattle.leb128.specs.Leb.{number, wide, unsigned, signed}
 use Rattle.leb128.specs.Examples as leb
 use Rattle.linetab.specs.declared.RunResult.TheVariants.{NewRow, Stopped}
 use Rattle.linetab.specs.Machine.{state, step_of}
 use Rattle.linetab.specs.Examples.{between}
 use Rattle.linetab.specs.Examples as line
-use Rattle.inline.specs.Store.{frame}
-use Rattle.inline.specs.Block.{listed, block_of}
+use Rattle.inline.specs.Frames.{frame}
+use Rattle.inline.specs.Block.{block_of}
 use Rattle.inline.specs.Examples.{parent}
 use Rattle.inline.specs.Examples as block
 
@@ -24,10 +24,10 @@ pub record MarkedExamples : Type 0 where
   pub t7 : step_of (between (pos 0) (neg_ℤ (pos 1))) (4 ∷ []) (state 4096 1 100 0) ≡ Stopped
   pub t8 : step_of (between (pos 0) (neg_ℤ (pos 3))) (7 ∷ []) (state 4096 1 100 0) ≡ NewRow (state 4095 1 101 1)
   -- blocks at symbol 0x1000: a root and its child contain 0x1005, only the root 0x100c; a root without a name; `00`
-  pub t9 : block_of 0x1000 0x1005 64 (parent 1) ≡ listed (frame 1 0 0 ∷ frame 5 1 10 ∷ [])
-  pub t10 : block_of 0x1000 0x100c 64 (parent 1) ≡ listed (frame 1 0 0 ∷ [])
-  pub t11 : block_of 0x1000 0x1005 64 (parent 0) ≡ listed (frame 5 1 10 ∷ [])
-  pub t12 : block_of 0x1000 0x1005 64 (0x00 ∷ []) ≡ listed []
+  pub t9 : block_of 0x1000 0x1005 64 (parent 1) ≡ Ok (frame 1 0 0 ∷ frame 5 1 10 ∷ [])
+  pub t10 : block_of 0x1000 0x100c 64 (parent 1) ≡ Ok (frame 1 0 0 ∷ [])
+  pub t11 : block_of 0x1000 0x1005 64 (parent 0) ≡ Ok (frame 5 1 10 ∷ [])
+  pub t12 : block_of 0x1000 0x1005 64 (0x00 ∷ []) ≡ Ok []
 
 pub marked-examples : MarkedExamples
 marked-examples = record {

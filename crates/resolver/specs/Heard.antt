@@ -5,7 +5,8 @@ use Rattle.std.specs.Prelude.{ℕ, Bool, List, [], ◌∷◌, eqb, Some, None, O
 use Rattle.types.specs.declared.Address.{Address}
 use Rattle.types.specs.declared.InlineFrame.{InlineFrame}
 use Rattle.linetab.specs.Rows.{line_row}
-use Rattle.inline.specs.Block.{Block, listed, refused, block_of}
+use Rattle.types.specs.Refusal.{number_of}
+use Rattle.inline.specs.Block.{Block, block_of}
 use Rattle.resolver.specs.Data.{Piece}
 use Rattle.linetab.specs.declared.LineTableRow.{LineTableRow}
 use Rattle.leb128.specs.declared.Cause.{Cause}
@@ -41,8 +42,8 @@ hear_row q p go None =
     if eqb p.kind 1 then after_line go (line_row p.bytes q.symbol q.addr) else go None
 
 abbrev pub after_block : (List InlineFrame → Heard) → Block → Heard
-after_block go (listed fs) = go fs
-after_block go (refused n) = fault n
+after_block go (Ok fs) = go fs
+after_block go (Err r) = fault (number_of r)
 
 -- type 2 is read when inlining is asked for and no frame is known yet
 unfoldable pub hear_frames : Ask → Piece → (List InlineFrame → Heard) → List InlineFrame → Heard

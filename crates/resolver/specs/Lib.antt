@@ -4,6 +4,9 @@ pub mod Heard
 pub mod Says
 pub mod Spell
 pub mod Lookup
+pub mod Met
+pub mod Blocks
 pub mod Stages
 pub mod Rows
+pub mod Told
 pub mod Examples

@@ -1,13 +1,11 @@
--- The records of a lookup in a list of numbers, and what the stages that write them are held to.
+-- The frames and the records of a lookup, and what the stages that make them are held to.
 -- Assumes nothing.
-use Rattle.std.specs.Prelude.{ℕ, zero, suc, ◌+◌, ◌-◌, ◌*◌, ◌/◌, min, true, false, List, [], ◌∷◌, ◌++◌, ◌⊎◌, ◌≡◌, length, take, Some, None, Ok, Err, Option, Result, if◌then◌else◌}
+use Rattle.std.specs.Prelude.{ℕ, true, List, [], ◌∷◌, ◌++◌, length, Some, None, Ok, Err, Option, Result, if◌then◌else◌}
 use Rattle.types.specs.declared.Address.{Address}
-use Rattle.types.specs.declared.Options.{Options}
 use Rattle.types.specs.declared.Text.{Text}
 use Rattle.types.specs.declared.Answer.{Answer}
 use Rattle.types.specs.declared.Frame.{Frame}
 use Rattle.types.specs.declared.InlineFrame.{InlineFrame}
-use Rattle.inline.specs.Store.{flat, frame_at}
 use Rattle.parser.specs.declared.Tables.{Tables}
 use Rattle.resolver.specs.declared.Entry.{Entry}
 use Rattle.resolver.specs.declared.Place.{Place}
@@ -15,60 +13,20 @@ use Rattle.resolver.specs.Data.{Piece, items_at}
 use Rattle.resolver.specs.Book.{book_of, reads_name}
 use Rattle.resolver.specs.Heard.{ask, Heard, known, fault, hear}
 use Rattle.resolver.specs.Spell.{Looked, refusing, spell_text}
-use Rattle.resolver.specs.Lookup.{lookup_of}
 use Rattle.resolver.specs.Stages.{record_of, place_in, place_at, call_at, plain_answer, answer_with}
 use Rattle.linetab.specs.declared.LineTableRow.{LineTableRow}
 
--- ---- records as numbers
-
--- a record: place and length of name, directory and file, and the line
-abbrev pub numbers_of : Frame → List ℕ
-numbers_of f =
-    f.name.place ∷ f.name.len ∷ f.dir.place ∷ f.dir.len ∷ f.file.place ∷ f.file.len ∷ f.line.0 ∷ []
-
-unfoldable pub flat_frames : List Frame → List ℕ
-flat_frames [] = []
-flat_frames (f ∷ fs) = numbers_of f ++ flat_frames fs
-
--- a record takes seven numbers, and there are at most 64
-abbrev pub records_in : List ℕ → ℕ
-records_in store = min 64 (length store / 7)
-
--- n frames of a block in a list of numbers, from frame k on
-unfoldable pub frames_from : (k n : ℕ) → List ℕ → List InlineFrame
-frames_from k zero xs = []
-frames_from k (suc n) xs = frame_at k xs ∷ frames_from (k + 1) n xs
-
 -- ---- what the items say
-
-unfoldable pub as_code : Heard → Result (Option LineTableRow × ℕ) ℕ
-as_code (known r fs) = Ok (r, length fs)
-as_code (fault n) = Err n
-
-unfoldable pub heard_frames : Heard → List InlineFrame
-heard_frames (known r fs) = fs
-heard_frames (fault n) = []
-
--- how many numbers the frames take
-abbrev pub takes : Result (Option LineTableRow × ℕ) ℕ → ℕ
-takes (Ok (r, count)) = 3 * count
-takes (Err n) = 0
 
 abbrev pub heard_in : Address → Address → ℕ → List Piece → Heard
 heard_in symbol addr room ps = hear (ask symbol addr room true) ps None []
 
--- what `code_in` answers and leaves: the frames at the front of the store
-pub record Hears (symbol addr : Address) (ps : List Piece) (entry exit : List ℕ) (r : Result (Option LineTableRow × ℕ) ℕ) : Type 0 where
-  pub says : r ≡ as_code (heard_in symbol addr (min 64 (length entry / 3)) ps)
-  pub frames : take (takes r) exit ≡ flat (heard_frames (heard_in symbol addr (min 64 (length entry / 3)) ps))
-  pub kept : length exit ≡ length entry
+-- what `code_in` answers, with the frames in the list
+abbrev pub heard_with : Result (Option LineTableRow) ℕ → List InlineFrame → Heard
+heard_with (Ok r) fs = known r fs
+heard_with (Err n) fs = fault n
 
 -- ---- the later frames
-
--- record k of a list is written, and the others stay
-pub record PutsRow (entry : List ℕ) (k : ℕ) (name : Text) (p : Place) (exit : List ℕ) : Type 0 where
-  pub front : take (7 * k + 7) exit ≡ take (7 * k) entry ++ numbers_of (record_of name p)
-  pub kept : length exit ≡ length entry
 
 pub data Lifted : Type 0 where
   lifted : List Frame → Lifted
@@ -85,25 +43,10 @@ lift file t row made name [] = lifted (made ++ record_of name row ∷ [])
 lift file t row made name (f ∷ fs) =
     then_lift (λ g. lift file t row (made ++ record_of name (place_in g) ∷ []) g.name fs) (call_at file t f)
 
-abbrev pub as_risen : Lifted → Result (Unit {0}) ℕ
-as_risen (lifted fs) = Ok tt
-as_risen (no n) = Err n
-
-unfoldable pub lifted_frames : Lifted → List Frame
-lifted_frames (lifted fs) = fs
-lifted_frames (no n) = []
-
--- what `rise` answers and leaves
-abbrev pub lift_all : List ℕ → Tables → List ℕ → ℕ → Text → Place → Lifted
-lift_all file t frames count under row = lift file t row [] under (frames_from 2 (count - 2) frames)
-
-pub record Rises (file : List ℕ) (t : Tables) (frames : List ℕ) (count : ℕ) (under : Text) (row : Place)
-    (entry exit : List ℕ) (r : Result (Unit {0}) ℕ) : Type 0 where
-  pub says : r ≡ as_risen (lift_all file t frames count under row)
-  pub records :
-      take (7 * length (lifted_frames (lift_all file t frames count under row))) exit
-      ≡ flat_frames (lifted_frames (lift_all file t frames count under row))
-  pub kept : length exit ≡ length entry
+-- what `rise` answers, with the records in the list
+abbrev pub lifted_with : Result (Unit {0}) ℕ → List Frame → Lifted
+lifted_with (Ok _) fs = lifted fs
+lifted_with (Err n) fs = no n
 
 -- ---- the answer with frames
 
@@ -142,25 +85,11 @@ with_heard file t e (fault n) = refusing n
 unfoldable pub frame_rest : List ℕ → Tables → Entry → Address → ℕ → Looked
 frame_rest file t e addr room = with_heard file t e (heard_in e.symbol addr room (items_at file e.items).list)
 
--- an answer, and its records at the front of a list of numbers that keeps its length
-pub record Wrote (l : Looked) (entry exit : List ℕ) (r : Answer) : Type 0 where
-  pub says : r ≡ l.answer
-  pub records : take (7 * r.count) exit ≡ flat_frames l.frames
-  pub kept : length exit ≡ length entry
+-- an answer with the records in the list
+abbrev pub looked : Answer → List Frame → Looked
+looked a fs = record { answer = a; frames = fs }
 
-abbrev pub WritesNamed :
-    List ℕ → Tables → Entry → Place → List ℕ → ℕ → List ℕ → List ℕ → Answer → Type 0
-WritesNamed file t e row frames count entry exit r =
-    Wrote (with_named file t e row (frames_from 0 count frames)) entry exit r
-
-abbrev pub Writes : List ℕ → Tables → Entry → Address → ℕ → List ℕ → List ℕ → Answer → Type 0
-Writes file t e addr room entry exit r = Wrote (frame_rest file t e addr room) entry exit r
-
--- ---- the whole lookup
-
--- what `lookup_in` answers and leaves; without both options the list isn't touched
-pub record Looks (file : List ℕ) (addr : Address) (o : Options) (entry exit : List ℕ) (r : Answer) : Type 0 where
-  pub says : r ≡ (lookup_of file addr o (records_in entry)).answer
-  pub records : take (7 * r.count) exit ≡ flat_frames (lookup_of file addr o (records_in entry)).frames
-  pub kept : length exit ≡ length entry
-  pub untouched : (o.code_info ≡ false) ⊎ (o.inlining ≡ false) → exit ≡ entry
+-- or a refusal's number
+abbrev pub looked_with : Result Answer ℕ → List Frame → Looked
+looked_with (Ok a) fs = looked a fs
+looked_with (Err n) fs = refusing n

@@ -1,6 +1,7 @@
 -- What each stage of a lookup answers, in the forms that the code hands on; laws say that they come to `lookup_of`.
 -- Assumes nothing.
 use Rattle.std.specs.Prelude.{ℕ, Bool, true, false, List, [], Some, None, Ok, Err, Option, Result, if◌then◌else◌}
+use Rattle.reads.specs.Steps.{◌>>=◌, ◌>>◌, need, given}
 use Rattle.types.specs.declared.Address.{Address}
 use Rattle.types.specs.declared.Options.{Options}
 use Rattle.types.specs.declared.Text.{Text}
@@ -8,70 +9,49 @@ use Rattle.types.specs.declared.Answer.{Answer}
 use Rattle.types.specs.declared.Frame.{Frame}
 use Rattle.types.specs.declared.InlineFrame.{InlineFrame}
 use Rattle.types.specs.Refusal.{no_text, refusal}
-use Rattle.strtab.specs.Strings.{name_at}
+use Rattle.strtab.specs.Strings.{text_at, name_at}
 use Rattle.linetab.specs.Rows.{line_row}
 use Rattle.parser.specs.declared.Tables.{Tables}
-use Rattle.parser.specs.declared.AddrInfo.{AddrInfo}
 use Rattle.parser.specs.Header.{opened_of}
 use Rattle.parser.specs.Search.{find_of}
-use Rattle.parser.specs.Entries.{symbol_at, info_at, covered_by}
+use Rattle.parser.specs.Entries.{symbol_at, info_at, covered_by, file_at}
 use Rattle.resolver.specs.declared.Entry.{Entry}
 use Rattle.resolver.specs.declared.Place.{Place}
 use Rattle.resolver.specs.Data.{Piece, items_at}
-use Rattle.resolver.specs.Book.{Book, book_of, reads_name}
 use Rattle.resolver.specs.Heard.{ask, Heard, known, fault, header_no, hear}
-use Rattle.resolver.specs.Says.{Site, SiteRead, is, no, site_of}
-use Rattle.resolver.specs.Spell.{spell_text}
 use Rattle.linetab.specs.declared.LineTableRow.{LineTableRow}
 use Rattle.leb128.specs.declared.Cause.{Cause}
 
 -- ---- landing
 
-unfoldable pub on_name : Address → AddrInfo → Option Text → Result Entry ℕ
-on_name symbol a (Some name) =
-    Ok (record { symbol = symbol; size = a.size; name = name; items = a.items })
-on_name symbol a None = Err 6
-
-unfoldable pub on_info : List ℕ → Tables → Address → Address → Option AddrInfo → Result Entry ℕ
-on_info file t symbol addr (Some a) =
-    if covered_by addr symbol a.size then on_name symbol a (name_at file t.strings a.name) else Err 1
-on_info file t symbol addr None = Err 5
-
--- an entry, for an address that landed there
+-- an entry, for an address that landed there: its information (5), its size (1), its name (6)
 unfoldable pub entry_at : List ℕ → Tables → ℕ → Address → Result Entry ℕ
-entry_at file t i addr = on_info file t (symbol_at file t i) addr (info_at file t i)
+entry_at file t i addr = do
+  a ← given 5 (info_at file t i)
+  need (covered_by addr (symbol_at file t i) a.size) 1
+  name ← given 6 (name_at file t.strings a.name)
+  Ok (record { symbol = symbol_at file t i; size = a.size; name = name; items = a.items })
 
-abbrev pub land_on : Tables → Result Entry ℕ → Result (Tables × Entry) ℕ
-land_on t (Ok e) = Ok (t, e)
-land_on t (Err n) = Err n
-
-unfoldable pub land_found : List ℕ → Tables → Address → Option ℕ → Result (Tables × Entry) ℕ
-land_found file t addr (Some i) = land_on t (entry_at file t i addr)
-land_found file t addr None = Err 1
-
-unfoldable pub land_opened : List ℕ → Address → Result Tables ℕ → Result (Tables × Entry) ℕ
-land_opened file addr (Ok t) = land_found file t addr (find_of file t addr)
-land_opened file addr (Err n) = Err n
-
+-- the tables (2, 3, 4), and the entry (1) that an address lands on
 unfoldable pub landing_of : List ℕ → Address → Result (Tables × Entry) ℕ
-landing_of file addr = land_opened file addr (opened_of file)
+landing_of file addr = do
+  t ← opened_of file
+  i ← given 1 (find_of file t addr)
+  e ← entry_at file t i addr
+  Ok (t, e)
 
 -- ---- positions
 
 abbrev pub place : Text → Text → ℕ → Place
 place dir file line = record { dir = dir; file = file; line = record { 0 = line } }
 
--- a position, its offsets spelt
-abbrev pub spell_site : Book → ℕ → Site → Place
-spell_site b p s = place (spell_text b p s.dir) (spell_text b p s.file) s.line
-
-abbrev pub spell_read : Book → ℕ → SiteRead → Result Place ℕ
-spell_read b p (is s) = Ok (spell_site b p s)
-spell_read b p (no n) = Err n
-
--- the position of a file index and a line
+-- the position of a file index and a line: the row of the file table (7), its directory and its file (8)
 unfoldable pub place_at : List ℕ → Tables → (index line : ℕ) → Result Place ℕ
-place_at file t index line = spell_read (book_of file t) t.strings.place (site_of (book_of file t) index line)
+place_at file t index line = do
+  row ← given 7 (file_at file t (record { 0 = index }))
+  dir ← given 8 (text_at file t.strings row.directory)
+  name ← given 8 (text_at file t.strings row.filename)
+  Ok (place dir name line)
 
 -- a name and a position
 abbrev pub record_of : Text → Place → Frame
@@ -80,17 +60,12 @@ record_of name p = record { name = name; dir = p.dir; file = p.file; line = p.li
 abbrev pub place_in : Frame → Place
 place_in f = record { dir = f.dir; file = f.file; line = f.line }
 
-abbrev pub at_call : Text → Result Place ℕ → Result Frame ℕ
-at_call name (Ok p) = Ok (record_of name p)
-at_call name (Err n) = Err n
-
--- a frame's name, and the position of its call
+-- a frame's name (6), and the position of its call (7, 8)
 unfoldable pub call_at : List ℕ → Tables → InlineFrame → Result Frame ℕ
-call_at file t f =
-    if reads_name (book_of file t) f.name.0
-    then at_call (spell_text (book_of file t) t.strings.place f.name.0)
-    (place_at file t f.call_file.0 f.call_line.0)
-    else Err 6
+call_at file t f = do
+  name ← given 6 (name_at file t.strings f.name)
+  p ← place_at file t f.call_file.0 f.call_line.0
+  Ok (record_of name p)
 
 -- ---- rows and frames
 
@@ -150,16 +125,21 @@ answer_with e name p count = record {
   count = count;
 }
 
--- by the row's position
-abbrev pub on_place : Entry → Result Place ℕ → Answer
-on_place e (Ok p) = answer_with e e.name p 0
-on_place e (Err n) = refusal n
+-- the symbol at its row's position (7, 8), or alone where there is no row
+unfoldable pub on_row : List ℕ → Tables → Entry → Option LineTableRow → Result Answer ℕ
+on_row file t e None = Ok (plain_answer e)
+on_row file t e (Some r) = do
+  p ← place_at file t r.file_idx.0 r.file_line.0
+  Ok (answer_with e e.name p 0)
 
-unfoldable pub on_row : List ℕ → Tables → Entry → Result (Option LineTableRow) ℕ → Answer
-on_row file t e (Ok (Some r)) = on_place e (place_at file t r.file_idx.0 r.file_line.0)
-on_row file t e (Ok None) = plain_answer e
-on_row file t e (Err n) = refusal n
+-- an entry with code info, where no frames are wanted: its items (9), and its row's position
+unfoldable pub row_rest : List ℕ → Tables → Entry → Address → Result Answer ℕ
+row_rest file t e addr = do
+  row ← row_in e.symbol addr (items_at file e.items).list
+  on_row file t e row
 
--- an entry with its row's position, where no frames are wanted
-unfoldable pub row_rest : List ℕ → Tables → Entry → Address → Answer
-row_rest file t e addr = on_row file t e (row_in e.symbol addr (items_at file e.items).list)
+-- a lookup without inlined calls
+unfoldable pub plain_of : List ℕ → Address → (code_info : Bool) → Result Answer ℕ
+plain_of file addr code = do
+  (t, e) ← landing_of file addr
+  if code then row_rest file t e addr else Ok (plain_answer e)

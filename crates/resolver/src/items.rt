@@ -1,11 +1,12 @@
 // The row and the frames of an entry's items (RULES, "Address data list"): line blocks are read while no row is
 // known, inline blocks while no frame is. The first fault in list order refuses, even if no row comes later.
-ghost use Rattle.std.specs.Prelude.{◌≡◌};
+ghost use Rattle.std.specs.Prelude.{◌≡◌, [], min};
 ghost use Rattle.resolver.specs.Data.{items_at};
 ghost use Rattle.resolver.specs.Stages.{line_heard};
-ghost use Rattle.resolver.specs.Rows.{Hears};
+ghost use Rattle.resolver.specs.Rows.{heard_in, heard_with};
 
 use super::rows::LINE_TABLE;
+use inline::Frames;
 use linetab::LineTableRow;
 use parser::Item;
 use types::Address;
@@ -31,19 +32,21 @@ fn hear_line(
     Ok(read)
 }
 
-// What the items from `items` on say of `addr`: the row if there is one, and how many frames there are; or a refusal's
-// number. The frames go to the front of `store`, as `inline::block_in` puts them.
+// What the items from `items` on say of `addr`: the row if there is one, and the frames, into an empty list with room for
+// `room` of them; or a refusal's number.
 pub(crate) fn code_in(
     file: &[u8],
     items: usize,
     symbol: Address,
     addr: Address,
-    store: &mut [u32],
-) -> Result<(Option<LineTableRow>, usize), u8>
-    ensures { Hears symbol addr (items_at file.now items).list store.old store.new result }
+    room: usize,
+    frames: &mut Frames,
+) -> Result<Option<LineTableRow>, u8>
+    requires { frames.old.items ≡ [] }
+    ensures { heard_with result frames.new.items
+        ≡ heard_in symbol addr (min 64 room) (items_at file.now items).list }
 {
     let mut row = None;
-    let mut count = 0;
     let mut at = items;
     while let Item::Is {
         kind,
@@ -54,14 +57,13 @@ pub(crate) fn code_in(
     {
         if kind == LINE_TABLE {
             row = hear_line(&file[place..place + len], symbol, addr, row)?;
-        } else if kind == INLINE_INFO && count == 0 {
-            let listed = inline::block_in(&file[place..place + len], symbol, addr, store);
-            if listed.number != types::FOUND {
-                return Err(listed.number);
+        } else if kind == INLINE_INFO && frames.is_empty() {
+            let block = &file[place..place + len];
+            if let Err(refusal) = inline::block_in(block, symbol, addr, room, frames) {
+                return Err(refusal.number());
             }
-            count = listed.count;
         }
         at = next;
     }
-    Ok((row, count))
+    Ok(row)
 }

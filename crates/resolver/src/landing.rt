@@ -8,6 +8,7 @@ use parser::Tables;
 use types::Address;
 
 // Entry i of the address table, for an address that landed there; or the refusal 5, 1 or 6.
+#[tactic(auto, unfolding(crate::specs::Stages::entry_at))]
 fn entry_of(file: &[u8], tables: Tables, i: usize, addr: Address) -> Result<Entry, u8>
     ensures { result ≡ entry_at file.now tables i addr }
 {
@@ -30,6 +31,7 @@ fn entry_of(file: &[u8], tables: Tables, i: usize, addr: Address) -> Result<Entr
 }
 
 // The tables and the entry that an address lands on, or the refusal's number.
+#[tactic(auto, unfolding(crate::specs::Stages::landing_of))]
 pub(crate) fn land(file: &[u8], addr: Address) -> Result<(Tables, Entry), u8>
     ensures { result ≡ landing_of file.now addr }
 {

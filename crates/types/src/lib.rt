@@ -2,34 +2,39 @@
 // answered, and the refusal numbers by name. Nothing is read here.
 #![tactic(auto)]
 
-ghost use Rattle.std.specs.Prelude.{◌≡◌};
-ghost use Rattle.types.specs.Refusal.{refusal};
+ghost use Rattle.std.specs.Prelude.{◌≡◌, ◌≤◌};
+ghost use Rattle.types.specs.Refusal.{refusal, number_of};
 
 // An address of the program whose symbols the file has.
-#[derive(Clone, Copy)]
+#[repr(C)]
+#[derive(Clone, Copy, Debug, PartialEq, Eq, PartialOrd, Ord, Default, Hash)]
 pub struct Address(pub u64);
 
 // Where a string starts, counted from the start of the string table.
-#[derive(Clone, Copy)]
+#[repr(C)]
+#[derive(Clone, Copy, Debug, PartialEq, Eq, PartialOrd, Ord, Default, Hash)]
 pub struct StrOffset(pub u32);
 
 // A row of the file table.
-#[derive(Clone, Copy)]
+#[repr(C)]
+#[derive(Clone, Copy, Debug, PartialEq, Eq, PartialOrd, Ord, Default, Hash)]
 pub struct FileIndex(pub u32);
 
 // A line of a source file.
-#[derive(Clone, Copy)]
+#[repr(C)]
+#[derive(Clone, Copy, Debug, PartialEq, Eq, PartialOrd, Ord, Default, Hash)]
 pub struct LineNumber(pub u32);
 
 // A string by where it stands: place counted from the file's start, and length, both in bytes.
-#[derive(Clone, Copy)]
+#[repr(C)]
+#[derive(Clone, Copy, Debug, PartialEq, Eq, Default, Hash)]
 pub struct Text {
     pub place: usize,
     pub len: usize,
 }
 
 // What a lookup is asked for beside the symbol: its source position, and the calls inlined at the address.
-#[derive(Clone, Copy)]
+#[derive(Clone, Copy, Debug, PartialEq, Eq, Default, Hash)]
 pub struct Options {
     pub code_info: bool,
     pub inlining: bool,
@@ -50,8 +55,9 @@ pub struct Answer {
     pub count: usize,
 }
 
-// A frame as the call that reads a single block writes it.
-#[derive(Clone, Copy)]
+// A call that was inlined: its function, and where it was called.
+#[repr(C)]
+#[derive(Clone, Copy, Debug, PartialEq, Eq, Default, Hash)]
 pub struct InlineFrame {
     pub name: StrOffset,
     pub call_file: FileIndex,
@@ -59,12 +65,42 @@ pub struct InlineFrame {
 }
 
 // A later frame as lookup writes it.
-#[derive(Clone, Copy)]
+#[repr(C)]
+#[derive(Clone, Copy, Debug, PartialEq, Eq, Default, Hash)]
 pub struct Frame {
     pub name: Text,
     pub dir: Text,
     pub file: Text,
     pub line: LineNumber,
+}
+
+// Why there is no answer, in the order of RULES ("Refusal numbers").
+#[derive(Clone, Copy, Debug, PartialEq, Eq, Hash)]
+pub enum Refusal {
+    UnknownAddress = 1,
+    TooFewBytes = 2,
+    WrongMagic = 3,
+    WrongVersion = 4,
+    UnreadInfo = 5,
+    UnreadName = 6,
+    UnknownFile = 7,
+    UnreadPath = 8,
+    UnreadLineHeader = 9,
+    UnreadInline = 10,
+    InlineSumTooLarge = 11,
+    CallFileTooLarge = 12,
+    TooDeep = 13,
+    TooManyFrames = 14,
+}
+
+impl Refusal {
+    // The number by which hosts know it, 1 to 14.
+    pub fn number(self) -> u8
+        ensures value { result ≡ number_of self }
+        ensures range { (1 ≤ result) × (result ≤ 14) }
+    {
+        self as u8
+    }
 }
 
 // The refusal numbers of RULES, in its order; 0 is no refusal.

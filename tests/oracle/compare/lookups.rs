@@ -31,7 +31,7 @@ fn same(file: &[u8], sym: &ResolvedSym<'_>, answer: &gsym::Answer, frames: &[Fra
         && sym.inlined.len() == answer.count
         && sym.inlined.iter().zip(frames).all(|(f, g)| {
             let (dir, path, line) = position(file, f.code_info.as_ref().unwrap());
-            (place(file, f.name.as_bytes()), dir, path, u64::from(line)) == (g.name, g.dir, g.file, g.line)
+            (place(file, f.name.as_bytes()), dir, path, line) == (g.name, g.dir, g.file, g.line)
         })
 }
 

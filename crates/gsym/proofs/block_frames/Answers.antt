@@ -1,19 +1,33 @@
--- The frames that the block gives are in the store, and fit the list.
+-- `gsym::block_frames` meets its contract: the frames fit in the list, and go over its first ones.
 -- Assumes nothing.
-use Rattle.std.proofs.Common.{List, ap, ◌∙◌}
-use Rattle.types.specs.declared.InlineFrame.{InlineFrame}
-use Rattle.gsym.specs.Lists.{over}
-use Rattle.gsym.proofs.Listings.{in_store, in_list, frames-read}
+use Rattle.std.proofs.Common.{rules, length, length-take, sym, ap, arith}
+use Rattle.inline.proofs.Demand.{block_room}
+use Rattle.gsym.proofs.Blocks.{told-reads}
 use Rattle.gsym.proofs.block_frames.Goals as goal
 
-pub copy_frames-requires-clause-in_store : goal.copy_frames-requires-clause-in_store
-copy_frames-requires-clause-in_store c = in_store _ _ _ _ _ _ _ c.min.ensures c.block_in-listed.ensures
+pub slice_bounds-copy_from_slice-end : goal.slice_bounds-copy_from_slice-end
+slice_bounds-copy_from_slice-end c =
+    let fits = block_room _ _ _ _ _ (sym c.in_ok-block_in.ensures.exact) in
+    omega (arith, c.len-count.ensures.value, fits)
 
-pub copy_frames-requires-clause-in_list : goal.copy_frames-requires-clause-in_list
-copy_frames-requires-clause-in_list c = in_list _ _ _ _ _ _ _ c.min.ensures c.block_in-listed.ensures
+pub slice_bounds-copy_from_slice-end-2 : goal.slice_bounds-copy_from_slice-end-2
+slice_bounds-copy_from_slice-end-2 c =
+    let fits = block_room _ _ _ _ _ (sym c.in_ok-block_in.ensures.exact) in
+    omega (arith, c.len-count.ensures.value, fits, length-take c.len-count.result c.args.frames.now)
 
-pub returns-clause-list : goal.returns-clause-list
-returns-clause-list c =
-    c.copy_frames.ensures
-    ∙ ap (λ (fs : List InlineFrame). over fs c.args.frames.now)
-    (frames-read _ _ _ _ _ _ _ c.min.ensures c.block_in-listed.ensures)
+pub copy_from_slice-requires : goal.copy_from_slice-requires
+copy_from_slice-requires c =
+    let fits = block_room _ _ _ _ _ (sym c.in_ok-block_in.ensures.exact) in
+    omega (
+      arith,
+      c.len-count.ensures.value,
+      fits,
+      length-take c.len-count.result c.args.frames.now,
+      ap length c.as_slice.ensures.value,
+    )
+
+pub returns-in_err-block_in-clause-answer : goal.returns-in_err-block_in-clause-answer
+returns-in_err-block_in-clause-answer c = search rules
+
+pub returns-in_err-block_in-clause-reads : goal.returns-in_err-block_in-clause-reads
+returns-in_err-block_in-clause-reads c = told-reads _ _ _ _ _ (returns-in_err-block_in-clause-answer c)

@@ -1,13 +1,13 @@
--- `gsym_c::gsym_block_frames` meets its contract: the records are read to the store, and those are copied.
+-- `gsym_block_frames` meets its contract: what `gsym::block_frames` answers, as C has it.
 -- Assumes nothing.
-use Rattle.gsym_c.proofs.Listing.{block-fits, block-lent}
+use Rattle.gsym_c.proofs.Told.{told-listed, told-refused}
 use Rattle.gsym_c.proofs.gsym_block_frames.Goals as goal
 
-pub copy_frames-requires-clause-in_store : goal.copy_frames-requires-clause-in_store
-copy_frames-requires-clause-in_store c = (block-fits _ _ _ _ _ c.args.frames.now _ c.min.ensures c.block_in-listed.ensures).0
+pub returns-clause-listed : goal.returns-clause-listed
+returns-clause-listed c =
+    told-listed _ _ _ _ _ _ _ c.lay_listed.ensures c.block_frames.ensures.reads c.block_frames.ensures.listed
 
-pub copy_frames-requires-clause-in_list : goal.copy_frames-requires-clause-in_list
-copy_frames-requires-clause-in_list c = (block-fits _ _ _ _ _ c.args.frames.now _ c.min.ensures c.block_in-listed.ensures).1
-
-pub returns : goal.returns
-returns c = block-lent _ _ _ _ _ _ _ c.min.ensures c.block_in-listed.ensures _ c.copy_frames.ensures
+pub returns-clause-refused : goal.returns-clause-refused
+returns-clause-refused c =
+    told-refused _ _ _ _ c.block_frames.new.frames _ _ c.lay_listed.ensures c.block_frames.ensures.reads
+    c.block_frames.ensures.refused

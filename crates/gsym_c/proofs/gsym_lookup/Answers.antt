@@ -1,10 +1,15 @@
--- `gsym_c::gsym_lookup` meets its contract: by whether both options are asked for.
+-- `gsym_lookup` meets its contract: the answer of `gsym::lookup` field by field.
 -- Assumes nothing.
-use Rattle.std.proofs.Common.{sym, ◌∙◌}
-use Rattle.gsym_c.proofs.Looking.{plain-asked}
+use Rattle.std.proofs.Common.{◌≡◌, sym, ap}
+use Rattle.gsym_c.specs.declared.GsymAnswer.{GsymAnswer}
 use Rattle.gsym_c.proofs.gsym_lookup.Goals as goal
 
-pub returns : goal.returns
-returns c =
-    plain-asked _ _ _ _ c.asked_by-asked.ensures _ _ _ (sym c.if-asks_frames.false ∙ c.asks_frames.ensures)
-    c.lookup_plain-answer.ensures c.lay_out.ensures
+pub returns-clause-refused : goal.returns-clause-refused
+returns-clause-refused c =
+    let n : c.lay_out.result.number ≡ c.lookup.result.number = ap (λ (a : GsymAnswer). a.number) c.lay_out.ensures in
+    rw (n, sym c.asked_by.ensures) c.lookup.ensures.refused
+
+pub returns-clause-blocks : goal.returns-clause-blocks
+returns-clause-blocks c =
+    let n : c.lay_out.result.number ≡ c.lookup.result.number = ap (λ (a : GsymAnswer). a.number) c.lay_out.ensures in
+    rw (n, sym c.asked_by.ensures) c.lookup.ensures.blocks
