@@ -1,8 +1,8 @@
 #!/bin/sh
-# All tests, from nothing: the kit's version, the promises' page, every proof, the layout of the sources, every
-# must-fail edit and every program, then what hosts get and the comparison with the Rust. The last line printed is
-# rt's own 'N passed, M failed'; the exit status is 0 only where nothing failed. Needs the Rattle toolchain and no
-# network.
+# All tests, from nothing: the kit's version, the promises' page, the wording of refusals, every proof, the layout of the
+# sources, every must-fail edit and every program, then what hosts get and the comparison with the Rust. The last line
+# printed is rt's own 'N passed, M failed'; the exit status is 0 only where nothing failed. Needs the Rattle toolchain
+# and no network.
 set -u
 cd "$(dirname "$0")" || exit 2
 
@@ -19,6 +19,7 @@ found=$(rt version)
 install that kit, or prove all anew with this one and change the pin"
 
 sh tests/promises.sh || fail "docs/PROMISES.md and the public functions disagree (above)"
+sh tests/wording.sh || fail "refusals or the version are told in two ways (above)"
 
 # rt's last line is held back until the edits' reasons are judged, so that it stays the last one printed
 tmp=$(mktemp -d) || exit 2

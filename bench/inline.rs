@@ -58,7 +58,7 @@ fn compare(b: &Block, addr: u64, deepest: u32) -> bool {
     let mut store = [0xeeee_eeeeu32; 192];
     let got = unsafe { gsym_block(b.bytes.as_ptr(), b.bytes.len(), b.symbol, addr, store.as_mut_ptr(), 64) };
     let want = match facade::block(b.bytes, b.symbol, addr) {
-        // outside the domain: document 01 decides
+        // outside the domain: RULES decides
         _ if deepest > 64 => Err(13),
         Ok(frames) => Ok(frames),
         Err(text) => Err(number(&text)),
@@ -106,7 +106,7 @@ fn main() {
                     deep += u64::from(deepest > 64);
                 }
             }
-            println!("{} blocks, {cases} answers compared, 0 differ ({deep} by document 01: a node on level 65)", all.len());
+            println!("{} blocks, {cases} answers compared, 0 differ ({deep} by RULES: a node on level 65)", all.len());
         }
         "time" => shared::measure(args[3].parse().unwrap(), || rust_pass(&all), || rattle_pass(&all)),
         "rust" => println!("{}", rust_pass(&all)),

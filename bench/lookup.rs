@@ -1,5 +1,7 @@
 // Whole lookups on both sides: `lookup FILE check`, `lookup FILE time PASSES`, `lookup FILE rust|rattle KIND` (one pass, for
-// callgrind) or `lookup scale PASSES`. The Rust opens its file once, as its users do; this reader has nothing to open.
+// callgrind) or `lookup scale PASSES`. FILE may be `tables` or `letters`, files that are made here. The Rust opens its file
+// once, as its users do; this reader has nothing to open.
+mod made;
 mod shared;
 
 use gsym::{Frame, Options};
@@ -67,32 +69,10 @@ fn rattle_pass(file: &[u8], addrs: &[u64], options: Options) -> u64 {
     sum
 }
 
-// A file of n symbols of 16 bytes each, names alone.
-fn plain_file(n: u32) -> Vec<u8> {
-    let mut out = 0x4753_594du32.to_le_bytes().to_vec();
-    out.extend([1, 0, 4, 0]);
-    out.extend(0x1000u64.to_le_bytes());
-    out.extend(n.to_le_bytes());
-    let offsets = 48 + 4 * n;
-    let strings = offsets + 4 * n + 4 + 8;
-    out.extend(strings.to_le_bytes());
-    out.extend(6u32.to_le_bytes());
-    out.resize(48, 0);
-    (0..n).for_each(|i| out.extend((16 * i).to_le_bytes()));
-    (0..n).for_each(|i| out.extend((strings + 8 + 16 * i).to_le_bytes()));
-    out.extend(1u32.to_le_bytes());
-    out.extend([0; 8]);
-    out.extend(b"\0main\0\0\0");
-    for _ in 0..n {
-        out.extend([16, 0, 0, 0, 1, 0, 0, 0, 0, 0, 0, 0, 0, 0, 0, 0]);
-    }
-    out
-}
-
 // Nanoseconds a lookup by name, by the number of entries.
 fn scale(passes: usize) {
     for bits in 2..=20 {
-        let file = shared::aligned(plain_file(1 << bits));
+        let file = shared::aligned(made::plain(1 << bits));
         let mut state = 7;
         let addrs: Vec<u64> = (0..100_000).map(|_| 0x1000 + next(&mut state) % (16 << bits)).collect();
         let opened = facade::open(file.bytes()).unwrap();
@@ -105,19 +85,44 @@ fn scale(passes: usize) {
     }
 }
 
+// Something to measure: what is asked for, of which addresses.
+struct Kind {
+    name: &'static str,
+    options: Options,
+    addrs: Vec<u64>,
+}
+
+// A file and what is measured of it. A line table without a row takes some 70 ns, so that of two million of them one lookup
+// is a pass.
+fn kinds(word: &str) -> (shared::Aligned, Vec<Kind>) {
+    match word {
+        "tables" => {
+            let kind = Kind { name: "tables without a row", options: Options::CODE_INFO, addrs: vec![0x1008] };
+            (shared::aligned(made::tables(2_000_000)), vec![kind])
+        }
+        "letters" => {
+            let file = shared::aligned(made::letters(1024, 64));
+            let addrs = addresses(file.bytes(), false);
+            (file, vec![Kind { name: "names of two-byte letters", options: Options::NAME, addrs }])
+        }
+        path => {
+            let file = shared::aligned(std::fs::read(path).expect("the file"));
+            let kind = |(name, options, shuffled)| Kind { name, options, addrs: addresses(file.bytes(), shuffled) };
+            let kinds = KINDS.into_iter().map(kind).collect();
+            (file, kinds)
+        }
+    }
+}
+
 fn main() {
     let args: Vec<String> = std::env::args().skip(1).collect();
     let passes = || args.last().unwrap().parse().expect("passes");
     if args[0] == "scale" {
         return scale(passes());
     }
-    let file = shared::aligned(std::fs::read(&args[0]).expect("the file"));
+    let (file, kinds) = kinds(&args[0]);
     let opened = facade::open(file.bytes()).expect("a file that opens");
-    for (name, options, shuffled) in KINDS {
-        if args.len() > 2 && args[1] != "time" && args[2] != name {
-            continue;
-        }
-        let addrs = addresses(file.bytes(), shuffled);
+    for Kind { name, options, addrs } in kinds {
         match args[1].as_str() {
             "check" => {
                 assert_eq!(rust_pass(&opened, &addrs, options), rattle_pass(file.bytes(), &addrs, options), "{name}");
@@ -130,7 +135,7 @@ fn main() {
                     || rattle_pass(file.bytes(), &addrs, options),
                 );
             }
-            side => {
+            side if args[2] == name => {
                 // every tenth address is enough for a count that repeats exactly
                 let addrs: Vec<u64> = addrs.iter().step_by(10).copied().collect();
                 let sum = match side {
@@ -139,6 +144,7 @@ fn main() {
                 };
                 println!("{sum}");
             }
+            _ => {}
         }
     }
 }

@@ -94,7 +94,7 @@ static void judge(struct bytes file)
 {
     gsym_answer answer = gsym_lookup(file.at, file.len, 0, 0, NULL, 0);
     if (answer.number >= GSYM_TOO_FEW_BYTES && answer.number <= GSYM_WRONG_VERSION) {
-        fprintf(stderr, "gsym-addr2line: %s: not a GSYM file that reads: %u, %s\n", file_name, answer.number,
+        fprintf(stderr, "gsym-addr2line: %s: refused: %u, %s\n", file_name, answer.number,
                 gsym_refusal_name(answer.number));
         exit(TROUBLE);
     }

@@ -8,7 +8,7 @@ struct shown {
     gsym_text name;
     gsym_text dir;
     gsym_text file;
-    uint64_t line;
+    uint32_t line;
     bool placed;
 };
 
@@ -49,7 +49,7 @@ static void print_place(FILE *out, struct bytes file, const struct shown *frame)
     if (frame->dir.len != 0)
         putc('/', out);
     print_text(out, file, frame->file);
-    fprintf(out, ":%" PRIu64, frame->line);
+    fprintf(out, ":%" PRIu32, frame->line);
 }
 
 static void print_frame(FILE *out, const struct view *view, struct bytes file, const struct shown *frame)
@@ -143,7 +143,7 @@ static void json_frame(FILE *out, struct bytes file, const struct shown *frame)
         json_text(out, file, frame->dir);
         fputs(",\"file\":", out);
         json_text(out, file, frame->file);
-        fprintf(out, ",\"line\":%" PRIu64, frame->line);
+        fprintf(out, ",\"line\":%" PRIu32, frame->line);
     }
     putc('}', out);
 }

@@ -7,8 +7,8 @@
  * threads as one likes. The file may start at any address. What each call answers and what it leaves in lent memory is
  * proved, not only tested: docs/PROMISES.md says how.
  *
- * Stack: gsym_lookup took at most 16,615 bytes and gsym_block_frames 12,279, measured on a tree of 64 levels
- * (tests/c measures anew); both stay below GSYM_STACK.
+ * Stack: gsym_lookup takes less than 16,384 bytes and gsym_block_frames less than 12,288, measured on trees of 64
+ * levels and on refused ones of 65 (tests/c measures anew, and fails above); GSYM_STACK leaves a margin of 8,192.
  */
 #ifndef GSYM_H
 #define GSYM_H
@@ -17,7 +17,7 @@
 #include <stdint.h>
 
 #define GSYM_VERSION_MAJOR 0
-#define GSYM_VERSION_MINOR 1
+#define GSYM_VERSION_MINOR 2
 #define GSYM_VERSION_PATCH 0
 #define GSYM_VERSION (GSYM_VERSION_MAJOR * 10000 + GSYM_VERSION_MINOR * 100 + GSYM_VERSION_PATCH)
 
@@ -36,20 +36,20 @@ extern "C" {
 /* ---- refusal numbers; 0 is an answer ---- */
 enum {
     GSYM_FOUND = 0,
-    GSYM_UNKNOWN_ADDRESS = 1,      /* no symbol covers the address */
-    GSYM_TOO_FEW_BYTES = 2,        /* too few bytes for the header or a table */
-    GSYM_WRONG_MAGIC = 3,          /* not a GSYM file, or one of the other byte order */
-    GSYM_WRONG_VERSION = 4,        /* a version other than 1 */
-    GSYM_UNREAD_INFO = 5,          /* the address information doesn't read */
-    GSYM_UNREAD_NAME = 6,          /* the name of the symbol or of a frame doesn't read, or is not UTF-8 */
-    GSYM_UNKNOWN_FILE = 7,         /* a file index that is not below the file count */
-    GSYM_UNREAD_PATH = 8,          /* a directory or a file string doesn't read */
-    GSYM_UNREAD_LINE_HEADER = 9,   /* the header of a line table doesn't read */
-    GSYM_UNREAD_INLINE = 10,       /* inline bytes don't read */
-    GSYM_INLINE_SUM_TOO_LARGE = 11, /* an inline start or end exceeds 2^64-1 */
-    GSYM_CALL_FILE_TOO_LARGE = 12, /* a call file above 4,294,967,295 */
-    GSYM_TOO_DEEP = 13,            /* inlined calls on more than 64 levels */
-    GSYM_TOO_MANY_FRAMES = 14      /* more frames than the lent list has room for */
+    GSYM_UNKNOWN_ADDRESS = 1,       /* no symbol covers the address */
+    GSYM_TOO_FEW_BYTES = 2,         /* the file ends inside its header or a table */
+    GSYM_WRONG_MAGIC = 3,           /* not a GSYM file, or one of the other byte order */
+    GSYM_WRONG_VERSION = 4,         /* a version other than 1 */
+    GSYM_UNREAD_INFO = 5,           /* the symbol's information doesn't read */
+    GSYM_UNREAD_NAME = 6,           /* the name of the symbol or of an inlined call doesn't read, or is not UTF-8 */
+    GSYM_UNKNOWN_FILE = 7,          /* a file index that is not below the file count */
+    GSYM_UNREAD_PATH = 8,           /* a directory or a file name doesn't read */
+    GSYM_UNREAD_LINE_HEADER = 9,    /* the header of a line table doesn't read */
+    GSYM_UNREAD_INLINE = 10,        /* an inline block doesn't read */
+    GSYM_INLINE_SUM_TOO_LARGE = 11, /* an inline range starts or ends above 2^64-1 */
+    GSYM_CALL_FILE_TOO_LARGE = 12,  /* a call file above 4,294,967,295 */
+    GSYM_TOO_DEEP = 13,             /* inlined calls on more than 64 levels */
+    GSYM_TOO_MANY_FRAMES = 14       /* more frames than there is room for */
 };
 
 /* ---- what is asked for: bits of `options` ---- */
@@ -149,20 +149,20 @@ static inline const char *gsym_refusal_name(uint32_t number)
 {
     static const char *const names[] = {
         "found",
-        "address unknown",
-        "too few bytes for header or a table",
-        "wrong magic",
-        "version not 1",
-        "address information doesn't read",
-        "symbol or frame name doesn't read",
-        "file index not below the file count",
-        "directory or file string doesn't read",
-        "line table header doesn't read",
-        "inline bytes don't read",
-        "an inline start or end exceeds 2^64-1",
-        "call file above 4,294,967,295",
-        "a node on level 65",
-        "more frames than room",
+        "no symbol covers the address",
+        "the file ends inside its header or a table",
+        "not a GSYM file, or one of the other byte order",
+        "a version other than 1",
+        "the symbol's information doesn't read",
+        "the name of the symbol or of an inlined call doesn't read, or is not UTF-8",
+        "a file index that is not below the file count",
+        "a directory or a file name doesn't read",
+        "the header of a line table doesn't read",
+        "an inline block doesn't read",
+        "an inline range starts or ends above 2^64-1",
+        "a call file above 4,294,967,295",
+        "inlined calls on more than 64 levels",
+        "more frames than there is room for",
     };
     return number < sizeof names / sizeof names[0] ? names[number] : 0;
 }

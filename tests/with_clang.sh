@@ -21,7 +21,9 @@ for rlib in ../*/out/rlib; do
     set -- "$@" -L "dependency=$rlib"
 done
 for crate in $(sed -n 's/#.*//; s/^gsym_c staticlib: *//p' ../../crates.txt); do
-    set -- "$@" --extern "$crate=../$crate/out/rlib/$crate.rlib"
+    rlib=../$crate/out/rlib/$crate.rlib
+    [ -e "$rlib" ] || rlib=$kit/rlibs/$crate.rlib
+    set -- "$@" --extern "$crate=$rlib"
 done
 "$kit/bin/rattle" build --crate-name gsym_c src/lib.rt "$@" --antt-project "$kit/rattle/logic/antt-project.json" \
     --logic-built "$kit/logic_built" --toolchain "$folder" --backend llvm --crate-type staticlib -o "$out"

@@ -423,7 +423,7 @@ static void words_and_texts(void)
     t.len = UINT64_MAX;
     CHECK(gsym_text_at(bytes, 4, t) == 0);
     CHECK(gsym_version() == GSYM_VERSION);
-    CHECK(gsym_version() == 100);
+    CHECK(gsym_version() == 200);
 }
 
 int main(void)

@@ -1,7 +1,8 @@
 /*
  * stack.c - how much stack a call takes: a thread runs it on a stack that was painted before, and what is no longer
- * painted was used. The blocks have 64 levels, of which the first so many are open and the others are passed over, for
- * each number from 0 to 64. Prints the largest use of each function; the exit status is 1 where GSYM_STACK isn't above.
+ * painted was used. The blocks have 64 levels, and 65, which is refused; of these the first so many are open and the
+ * others are passed over, for each number. Prints the largest use of each function, and at how many levels; the exit
+ * status is 1 where one is not below what include/gsym.h says.
  */
 #ifndef _DEFAULT_SOURCE
 #define _DEFAULT_SOURCE
@@ -16,19 +17,27 @@
 
 enum { STACK = 1 << 20, PAINT = 0xa5 };
 
+/* what include/gsym.h says of gsym_lookup and gsym_block_frames */
+static const size_t said[2] = {16384, 12288};
+
 static made file, block;
 static gsym_frame records[GSYM_MAX_FRAMES];
 static gsym_inline_frame frames[GSYM_MAX_FRAMES];
 static int which;
 static uint64_t count;
+static uint32_t number;
 static uint8_t *top;
 
 static void call(void)
 {
-    if (which == 0)
-        count = gsym_lookup(file.at, file.len, 0x1005, GSYM_CODE_INFO | GSYM_INLINING, records, GSYM_MAX_FRAMES).count;
-    else
-        count = gsym_block_frames(block.at, block.len, 0x1000, 0x1005, frames, GSYM_MAX_FRAMES).count;
+    if (which == 0) {
+        uint32_t options = GSYM_CODE_INFO | GSYM_INLINING;
+        gsym_answer a = gsym_lookup(file.at, file.len, 0x1005, options, records, GSYM_MAX_FRAMES);
+        count = a.count, number = a.number;
+    } else {
+        gsym_listed l = gsym_block_frames(block.at, block.len, 0x1000, 0x1005, frames, GSYM_MAX_FRAMES);
+        count = l.count, number = l.number;
+    }
 }
 
 static void *run(void *unused)
@@ -69,20 +78,25 @@ static size_t used(void)
 int main(void)
 {
     size_t most[2] = {0, 0};
-    for (int open = 0; open <= 64; open++) {
-        block.len = 0;
-        put_levels(&block, 64, open, S_MID);
-        put_file(&file, made_lines, sizeof made_lines, block.at, block.len);
-        for (which = 0; which < 2; which++) {
-            size_t bytes = used();
-            if (most[which] < bytes)
-                most[which] = bytes;
-            if (count != (uint64_t)(which == 0 && open > 0 ? open - 1 : open)) {
-                printf("stack.c: %d open levels gave %d records\n", open, (int)count);
-                return 1;
+    int at[2] = {0, 0};
+    for (int levels = 64; levels <= 65; levels++)
+        for (int open = 0; open <= levels; open++) {
+            block.len = 0;
+            put_levels(&block, levels, open, S_MID);
+            put_file(&file, made_lines, sizeof made_lines, block.at, block.len);
+            for (which = 0; which < 2; which++) {
+                size_t bytes = used();
+                if (most[which] < bytes)
+                    most[which] = bytes, at[which] = levels;
+                uint64_t want = (uint64_t)(levels > 64 ? 0 : which == 0 && open > 0 ? open - 1 : open);
+                if (number != (levels > 64 ? GSYM_TOO_DEEP : GSYM_FOUND) || count != want) {
+                    printf("stack.c: %d of %d levels open gave %d, %d records\n", open, levels, (int)number,
+                           (int)count);
+                    return 1;
+                }
             }
         }
-    }
-    printf("stack: gsym_lookup %zu bytes, gsym_block_frames %zu, GSYM_STACK %d\n", most[0], most[1], GSYM_STACK);
-    return most[0] >= GSYM_STACK || most[1] >= GSYM_STACK;
+    printf("stack: gsym_lookup %zu bytes (%d levels), gsym_block_frames %zu (%d levels), GSYM_STACK %d\n", most[0],
+           at[0], most[1], at[1], GSYM_STACK);
+    return most[0] >= said[0] || most[1] >= said[1] || GSYM_STACK < said[0] + 8192;
 }

@@ -1,9 +1,10 @@
 #!/usr/bin/env python3
-"""Holds table.txt to what runs: `compare.py FOLDER [--rust PROGRAM] [--llvm LLVM-GSYMUTIL] [--tool GSYM-ADDR2LINE]`.
+"""Holds table.txt to what runs: `compare.py FOLDER [--rust PROGRAM] [--llvm LLVM-GSYMUTIL].. [--tool GSYM-ADDR2LINE]`.
 
-FOLDER gets the inputs of make.py. A line of the table is `name | asked | here | Rust | LLVM 14`. "Here" is document 01
-as tests/vectors/lookup_model.py has it, and gsym-addr2line where its path is given. An answer is a question mark and a
-refusal's number, or the frames from the innermost outwards. --write writes the columns that were run anew.
+FOLDER gets the inputs of make.py. A line of the table is `name | asked | here | Rust | LLVM 14 | LLVM 19`. "Here" is
+RULES as tests/vectors/lookup_model.py has it, and gsym-addr2line where its path is given. An answer is a question mark
+and a refusal's number, or the frames from the innermost outwards. Which column a llvm-gsymutil belongs to it says
+itself; --llvm may be given once for each. --write writes the columns that were run anew.
 """
 import argparse
 import json
@@ -19,6 +20,7 @@ import lookup_model  # noqa: E402
 import make  # noqa: E402
 
 TABLE = HERE / "table.txt"
+LLVMS = ["14", "19"]  # the columns of LLVM, by its major version
 
 
 def escaped(data):
@@ -38,7 +40,7 @@ def short(answer):
 
 
 def by_model(file, address, opts, room, whole=False):
-    """Document 01's answer; None where several entries of a falling table fit, which it leaves to the reader. The whole
+    """RULES' answer; None where several entries of a falling table fit, which it leaves to the reader. The whole
     answer has the symbol's address and size too."""
     try:
         number, answer, records = lookup_model.answer(file, address, opts, room)
@@ -69,6 +71,13 @@ def by_tool(tool, path, address):
         for f in said["frames"]
     ]
     return short(" < ".join(frames))
+
+
+def major(tool):
+    """The major version of an llvm-gsymutil."""
+    said = subprocess.run([tool, "--version"], capture_output=True, encoding="utf-8").stdout
+    found = re.search(r"LLVM version (\d+)", said)
+    return found[1] if found else "unknown"
 
 
 def by_llvm(tool, path, address):
@@ -116,36 +125,40 @@ def named():
 def main():
     words = argparse.ArgumentParser()
     words.add_argument("folder", type=pathlib.Path)
-    for name in ["--rust", "--llvm", "--tool"]:
+    for name in ["--rust", "--tool"]:
         words.add_argument(name, default="")
+    words.add_argument("--llvm", action="append", default=[])
     words.add_argument("--write", action="store_true")
     use = words.parse_args()
     make.write(use.folder)
     table, rows, differ = stored(), [], 0
-    compared = {"document 01": 0, "the Rust": 0, "LLVM": 0, "gsym-addr2line": 0}
+    tools = {major(tool): tool for tool in use.llvm}
+    sides = ["RULES", "the Rust", *(f"LLVM {version}" for version in LLVMS)]
+    compared = dict.fromkeys([*sides, "gsym-addr2line"], 0)
     rust = by_rust(use.rust, make.CASES) if use.rust else [None] * len(make.CASES)
     for (name, file, address, opts, room, shift), said_rust in zip(make.CASES, rust):
         path = use.folder / f"{name}.gsym"
         plain = (opts, room, shift) == (3, 64, 0)
-        said = [by_model(file, address, opts, room), said_rust, None]
-        if use.llvm and not shift and room == 64:
-            said[2] = by_llvm(use.llvm, path, address)
-        want = table.get(name, [asked(address, opts, room, shift), "not run", "not run", "not run"])
+        asks = [tools.get(version) if not shift and room == 64 else None for version in LLVMS]
+        said = [by_model(file, address, opts, room), said_rust]
+        said += [by_llvm(tool, path, address) if tool else None for tool in asks]
+        want = table.get(name, [asked(address, opts, room, shift)] + ["not run"] * len(sides))
         if use.write:
+            want += ["not run"] * (len(sides) + 1 - len(want))
             rows.append([name, asked(address, opts, room, shift)] + [s or w for s, w in zip(said, want[1:])])
             continue
-        tries = list(zip(compared, [*said, None], [*want[1:], want[1]]))
+        tries = list(zip(sides, said, want[1:]))
         if use.tool and plain:
-            tries[3] = ("gsym-addr2line", by_tool(use.tool, path, address), want[1])
+            tries.append(("gsym-addr2line", by_tool(use.tool, path, address), want[1]))
         for side, got, expected in tries:
             compared[side] += got is not None
             if got is not None and got != expected:
                 differ += 1
                 print(f"differences: {name}: {side} answers {got}, and table.txt has {expected}")
     if use.write:
-        width = [max(len(row[i]) for row in rows) for i in range(4)]
+        width = [max(len(row[i]) for row in rows) for i in range(len(rows[0]) - 1)]
         head = "# Inputs of docs/DIFFERENCES.md and what each side answers; README.md here says what a line means.\n"
-        text = "".join(" | ".join([*(c.ljust(w) for c, w in zip(row, width)), row[4]]) + "\n" for row in rows)
+        text = "".join(" | ".join([*(c.ljust(w) for c, w in zip(row, width)), row[-1]]) + "\n" for row in rows)
         TABLE.write_text(head + text)
         return 0
     names = {name for name, *_ in make.CASES}

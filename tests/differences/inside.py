@@ -1,6 +1,6 @@
 #!/usr/bin/env python3
-"""Inside document 01's domain the Rust and document 01 must agree: `inside.py PROGRAM [COUNT [SEED]]` asks both about
-random files. PROGRAM is rust.rs, built; document 01 is tests/vectors/lookup_model.py. Files are made of well-formed
+"""Inside the domain the Rust and RULES must agree: `inside.py PROGRAM [COUNT [SEED]]` asks both about
+random files. PROGRAM is rust.rs, built; RULES is tests/vectors/lookup_model.py. Files are made of well-formed
 parts with odd numbers, then cut or changed in some bytes. A case outside the domain is counted and not compared."""
 import random
 import sys
@@ -119,12 +119,12 @@ def main():
         expected.append(said)
     differ = [(c, w, g) for c, w, g in zip(cases, expected, by_rust(sys.argv[1], cases, True)) if w != g]
     for (_, file, address, opts, *_), want, got in differ[:5]:
-        print(f"inside: {file.hex()} at {address:#x}, options {opts}: document 01 {want}, the Rust {got}")
+        print(f"inside: {file.hex()} at {address:#x}, options {opts}: RULES {want}, the Rust {got}")
     refused = {w for w in expected if w.startswith("?")}
     print(
-        f"inside: {len(cases)} random files inside document 01's domain, {sum(w in refused for w in expected)} of them "
+        f"inside: {len(cases)} random files inside the domain, {sum(w in refused for w in expected)} of them "
         f"refused with {len(refused)} numbers ({outside} more were outside): "
-        f"the Rust differs from document 01 on {len(differ)}"
+        f"the Rust differs from RULES on {len(differ)}"
     )
     return 1 if differ else 0
 

@@ -77,6 +77,7 @@ def lists():
     case("list-end-no-length", one(ROW, u32(0)))
     case("list-item-long", one(ROW, u32(2) + u32(9) + b"\0"))
     case("list-end-length", one(ROW, u32(0) + u32(1) + b"\0"))
+    case("list-end-past", one(ROW, u32(0) + u32(1)))
     case("two-lines", one(ROW, lines(b"\2\0\0", b"\0\0\7"), END))
     case("two-lines-first-empty", one(lines(b"\0"), ROW, END))
     case("two-trees", one(ROW, tree(call("leaf", 9)), tree(call("inner", 8)), END))
@@ -110,6 +111,8 @@ def trees():
     case("tree-child-unnamed", one(ROW, tree(call("", 8, kids=[leaf])), END))
     case("tree-child-call-file-0", one(ROW, tree(call("leaf", 9, file=0)), END))
     case("tree-child-file-empty", one(ROW, tree(call("leaf", 9, file=4)), END, files=FILES + [(0, 0)]))
+    elsewhere = [(len(TABLE) - 1, len(TABLE) - 1)]  # the last zero byte of the table: an empty string that isn't the first
+    case("tree-child-file-empty-elsewhere", one(ROW, tree(call("leaf", 9, file=4)), END, files=FILES + elsewhere))
     case("tree-child-call-file-past", one(ROW, tree(call("leaf", 9, file=9)), END))
     case("tree-siblings", one(ROW, tree(leaf, call("inner", 8)), END))
     unsorted = [(0x10, 0x10), (0, 8)]

@@ -1,8 +1,9 @@
 #!/bin/sh
 # The inputs of docs/DIFFERENCES.md, made and run anew, the answers compared with table.txt: `run.sh [GSYM-ADDR2LINE]`.
-# Document 01's answers always; the unchanged Rust's where its sources and rustc are ($BLAZESYM_SRC, see tests/oracle),
-# LLVM's where llvm-gsymutil 14 is ($LLVM_GSYMUTIL), the reader's own where its program is named. With the Rust, random
-# files inside document 01's domain too ($DIFFERENCES_RANDOM of them, else 5,000), where none may differ.
+# RULES' answers always; the unchanged Rust's where its sources and rustc are ($BLAZESYM_SRC, see tests/oracle), LLVM's
+# by each llvm-gsymutil of a version that the table has a column for (those installed, and the programs that
+# $LLVM_GSYMUTIL names), the reader's own where its program is named. With the Rust, random files inside the domain of
+# the comparison too ($DIFFERENCES_RANDOM of them, else 5,000), where none may differ.
 # Exit status 1 where an answer differs, 3 where nothing could be compared.
 set -u
 cd "$(dirname "$0")/../.." || exit 2
@@ -31,16 +32,19 @@ if [ -n "$rust" ]; then
     set -- "$@" --rust "$rust"
 fi
 
-llvm=${LLVM_GSYMUTIL:-}
-for found in llvm-gsymutil-14 /usr/lib/llvm-14/bin/llvm-gsymutil llvm-gsymutil; do
-    [ -n "$llvm" ] || llvm=$(command -v $found)
+columns=$(sed -n 's/^LLVMS = \[\(.*\)\].*/\1/p' $here/compare.py | tr -d '",')
+for version in $columns; do
+    found=
+    for program in ${LLVM_GSYMUTIL:-} "llvm-gsymutil-$version" "/usr/lib/llvm-$version/bin/llvm-gsymutil" llvm-gsymutil; do
+        program=$(command -v "$program") || continue
+        [ -n "$found" ] || ! "$program" --version | grep -q "LLVM version $version\." || found=$program
+    done
+    if [ -n "$found" ]; then
+        set -- "$@" --llvm "$found"
+    else
+        echo "differences: no llvm-gsymutil $version here (LLVM_GSYMUTIL may name it), LLVM $version is not run"
+    fi
 done
-version=$([ -z "$llvm" ] || "$llvm" --version | sed -n 's/.*LLVM version \([0-9.]*\).*/\1/p')
-case $version in
-14.*) set -- "$@" --llvm "$llvm" ;;
-"") echo "differences: no llvm-gsymutil here (set LLVM_GSYMUTIL), LLVM is not run" ;;
-*) echo "differences: llvm-gsymutil here is $version, the table's is 14: LLVM is not run" ;;
-esac
 
 status=0
 python3 $here/compare.py "$@" || status=1

@@ -140,7 +140,7 @@ static looked look(bytes file, uint64_t addr, uint32_t options, size_t room, int
     return l;
 }
 
-/* what is asked for less succeeds where more did, with the same symbol (document 02, request 9) */
+/* what is asked for less succeeds where more did, with the same symbol (RULES, "Address data list") */
 static void check_less(bytes file, uint64_t addr, const looked *all, int at_end)
 {
     looked plain = look(file, addr, 0, 0, at_end);

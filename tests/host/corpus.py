@@ -3,7 +3,7 @@
 
 CORPUS has NAME.gsym and NAME.llvm.tsv.xz, a line an address: address, ok, start, size, name, N and N times name, offset,
 directory, file, line from the innermost frame outwards; or address, err, message. In `deep` a tree may have a node on level
-65, which is refused with 13 by document 01 and answered by LLVM: that is counted, and is a difference anywhere else.
+65, which is refused with 13 by RULES and answered by LLVM: that is counted, and is a difference anywhere else.
 """
 import json
 import lzma

@@ -65,15 +65,15 @@ END
 "$tool" -e $sample -f --refusals fff 11d5 >"$tmp/out"
 status "refused addresses" 1 $?
 same "refusals by number and name" <<'END'
-?1 address unknown
-?1 address unknown
-?6 symbol or frame name doesn't read
-?6 symbol or frame name doesn't read
+?1 no symbol covers the address
+?1 no symbol covers the address
+?6 the name of the symbol or of an inlined call doesn't read, or is not UTF-8
+?6 the name of the symbol or of an inlined call doesn't read, or is not UTF-8
 END
 "$tool" -e $sample --json 1155 fff >"$tmp/out"
 same "JSON" <<'END'
 {"address":"0x1155","number":0,"start":"0x10a0","size":256,"frames":[{"name":"send_request","directory":"/src/connector","file":"post.c","line":35},{"name":"post_order","directory":"/src/connector","file":"post.c","line":18},{"name":"sync_orders","directory":"/src/connector","file":"sync.c","line":44}]}
-{"address":"0xfff","number":1,"refusal":"address unknown"}
+{"address":"0xfff","number":1,"refusal":"no symbol covers the address"}
 END
 cat $sample | "$tool" -e /dev/stdin -f 1000 >"$tmp/out"
 same "a file from a pipe" <<'END'
@@ -97,8 +97,8 @@ trouble() { # NAME EXPECTED-MESSAGE ARGUMENTS..
 trouble "no file" "No such file or directory" -e "$tmp/none" 1000
 trouble "a folder" "Is a directory" -e "$tmp" 1000
 trouble "an empty file" "the file is empty" -e "$tmp/empty" 1000
-trouble "another file" "3, wrong magic" -e "$tmp/other" 1000
-trouble "a torn file" "2, too few bytes for header or a table" -e "$tmp/torn" 1000
+trouble "another file" "3, not a GSYM file" -e "$tmp/other" 1000
+trouble "a torn file" "2, the file ends inside its header or a table" -e "$tmp/torn" 1000
 trouble "no file named" "usage:" 1000
 trouble "an unknown option" "usage:" -e $sample --frob 1000
 "$tool" -e $sample zz 1000 >"$tmp/out" 2>"$tmp/errors"

@@ -1,7 +1,8 @@
 #!/bin/sh
 # Builds the unchanged Rust as a library, for the programs here to compare with: `build.sh OUT`. The sources are
 # those of blazesym 0.2.6 at $BLAZESYM_SRC (a folder with src/gsym/ and src/util.rs), checked by SHA-256 and used as
-# they are; without them it says so and answers 3. Release build, no overflow checks, as document 01 has it.
+# they are; without them it says so and answers 3. Release build, no overflow checks, as the domain has it (RULES,
+# "Domain of the comparison").
 set -eu
 here=$(cd "$(dirname "$0")" && pwd)
 out=${1:?the folder to build in}

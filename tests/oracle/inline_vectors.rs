@@ -1,6 +1,6 @@
 // Writes the vectors of inline blocks, with the answers of the unchanged Rust: vectors.sh runs it. What lies outside
 // the domain of the comparison (a node on level 65, more frames than room, a number that is too wide) is answered by
-// document 01 and stands under a remark that says so.
+// RULES and stands under a remark that says so.
 use oracle::gsym::facade;
 use std::fmt::Write as _;
 
@@ -49,7 +49,7 @@ impl Out {
         }
     }
 
-    // By document 01, with this room.
+    // By RULES, with this room.
     fn ruled(&mut self, data: &[u8], symbol: u64, addr: u64, room: u64, tag: char, a: u64) {
         self.case('B', data, symbol, addr, room, tag, [a, 0, 0]);
     }
@@ -113,7 +113,7 @@ fn main() {
     let mut o = Out(String::new());
     let top = u64::MAX;
     o.remark("Inline blocks, answered by the unchanged Rust; made by tests/oracle/vectors.sh.");
-    o.remark("document 01, T9 to T12");
+    o.remark("RULES, T9 to T12");
     let t9 = [1, 0, 0x20, 1, 1, 0, 0, 0, 0, 0, 1, 4, 8, 0, 5, 0, 0, 0, 1, 10, 0];
     let mut t11 = t9;
     t11[4] = 0;
@@ -203,7 +203,7 @@ fn main() {
         o.outcome(&hurt, 0x1000, 0x1010 + random(0x40));
         made += 1;
     }
-    o.remark("outside the domain, answered by document 01: a node on level 65, and a list that ends there");
+    o.remark("outside the domain, answered by RULES: a node on level 65, and a list that ends there");
     for levels in [65, 66, 70] {
         let data = bytes(&chain(levels, |l| u32::from(l == 1)));
         o.ruled(&data, 0x1000, 0x1001, 64, 'r', 13);
@@ -219,7 +219,7 @@ fn main() {
     let mut cut = ends.clone();
     cut.truncate(ends.len() - 64);
     o.ruled(&cut, 0x1000, 0x1001, 64, 'r', 10);
-    o.remark("outside the domain, answered by document 01: more frames than room");
+    o.remark("outside the domain, answered by RULES: more frames than room");
     for (room, tag, a) in [(0, 'r', 14), (1, 'r', 14), (2, 'v', 2), (3, 'v', 2), (64, 'v', 2), (1000, 'v', 2)] {
         o.ruled(&t9, 0x1000, 0x1005, room, tag, a);
     }
@@ -228,7 +228,7 @@ fn main() {
     let more = node(&[(0, 0x20)], 1, (2..=65).map(|i| node(&[(0, 0x20)], i, vec![])).collect());
     o.ruled(&bytes(&more), 0x1000, 0x1001, 64, 'r', 14);
     o.ruled(&bytes(&more), 0x1000, 0x1001, 1000, 'r', 14);
-    o.remark("outside the domain, answered by document 01: numbers that are too wide");
+    o.remark("outside the domain, answered by RULES: numbers that are too wide");
     let mut too_wide = vec![0xff; 9];
     too_wide.push(2);
     for at in [0, 1, 2] {

@@ -1,5 +1,5 @@
 // Writes the vectors of line tables, with the answers of the unchanged Rust: vectors.sh runs it. A case that lies
-// outside the domain of the comparison is answered by document 01 and stands under a remark that says so.
+// outside the domain of the comparison is answered by RULES and stands under a remark that says so.
 use oracle::gsym::facade;
 use std::fmt::Write as _;
 
@@ -211,7 +211,7 @@ fn main() {
         let addr = 0x1000 + random(200);
         o.program(min, max, random(1 << 34), &ops, 0x1000, &[addr]);
     }
-    o.remark("outside the domain, answered by document 01: a header number that is too wide");
+    o.remark("outside the domain, answered by RULES: a header number that is too wide");
     let mut wide = vec![0xff; 9];
     wide.push(2);
     let mut second = vec![0];
@@ -222,7 +222,7 @@ fn main() {
         o.case('H', data, 0, 0, 'w', [0; 4]);
         o.case('L', data, 0x1000, 0x1000, 'w', [0; 4]);
     }
-    o.remark("outside the domain, answered by document 01: an operand that is too wide ends the program");
+    o.remark("outside the domain, answered by RULES: an operand that is too wide ends the program");
     for op in [1u8, 2, 3] {
         let mut data = vec![0, 0, 5, 2, 1, op];
         data.extend([0xff; 9]);

@@ -1,5 +1,5 @@
 // Writes the vectors of whole lookups, with the answers of the unchanged Rust: vectors.sh runs it, with the folder of
-// real files. What lies outside the domain of the comparison is answered by document 01, under a remark that says so.
+// real files. What lies outside the domain of the comparison is answered by RULES, under a remark that says so.
 #[path = "lookup/blocks.rs"]
 mod blocks;
 #[path = "lookup/corpus.rs"]

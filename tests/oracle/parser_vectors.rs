@@ -1,11 +1,11 @@
 // Writes the vectors of header, tables, entry search and items, with the answers of the unchanged Rust: vectors.sh runs
-// it. Tables that don't strictly rise lie outside the domain; document 01 answers there, under a remark that says so.
+// it. Tables that don't strictly rise lie outside the domain; RULES answers there, under a remark that says so.
 use oracle::gsym::facade;
 use std::fmt::Write as _;
 
 struct Out(String);
 
-// The file at a place divisible by 8, as document 01's domain has it.
+// The file at a place divisible by 8, as the domain has it.
 fn aligned<T>(file: &[u8], f: impl FnOnce(&[u8]) -> T) -> T {
     let mut words = vec![0u64; file.len() / 8 + 1];
     let bytes = unsafe { std::slice::from_raw_parts_mut(words.as_mut_ptr().cast::<u8>(), file.len()) };
@@ -144,7 +144,7 @@ fn shape(width: u8, base: u64, entries: &[u64]) -> Shape {
     }
 }
 
-// The entries that fit document 01's words: not above, and the last or the next one above; none if the first is above.
+// The entries that fit the words of RULES: not above, and the last or the next one above; none if the first is above.
 fn fitting(entries: &[u64], wanted: u64) -> Vec<usize> {
     let fits = |i: usize| entries[i] <= wanted && (i + 1 == entries.len() || wanted < entries[i + 1]);
     (0..entries.len()).filter(|&i| entries[0] <= wanted && fits(i)).collect()
@@ -157,7 +157,7 @@ fn tables(width: u8, base: u64, entries: &[u64]) -> Vec<u8> {
 
 fn falling_tables(o: &mut Out) {
     let top = u64::MAX;
-    o.remark("outside the domain, answered by document 01: falling tables where one entry alone fits");
+    o.remark("outside the domain, answered by RULES: falling tables where one entry alone fits");
     for (width, base, entries, addr) in [
         (1, 0, vec![1, 9, 5], 9),
         (1, 0, vec![9, 5, 1], 9),
@@ -291,13 +291,13 @@ fn main() {
             o.item(&file, 0, nth);
         }
     }
-    o.remark("outside the domain, answered by document 01: runs of equal entries, where the last is chosen");
+    o.remark("outside the domain, answered by RULES: runs of equal entries, where the last is chosen");
     let equal = write(&shape(1, 0, &[5, 5, 5, 9, 9]));
     for (addr, i, at) in [(5, 2, 5), (8, 2, 5), (9, 4, 9), (20, 4, 9)] {
         o.case('I', &equal, addr, 0, 'v', [i, at, 0]);
     }
     o.case('I', &equal, 4, 0, '-', [0; 3]);
-    o.remark("outside the domain, answered by document 01: a falling table whose first entry is above");
+    o.remark("outside the domain, answered by RULES: a falling table whose first entry is above");
     let falling = write(&shape(1, 0, &[9, 5, 1]));
     for addr in [0, 1, 5, 8] {
         o.case('I', &falling, addr, 0, '-', [0; 3]);

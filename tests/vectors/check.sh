@@ -1,5 +1,5 @@
 #!/bin/sh
-# Holds the stored vectors to what makes them, the whole lookups to document 01 written down once more, and all to
+# Holds the stored vectors to what makes them, the whole lookups to RULES written down once more, and all to
 # Rust's standard library and the unchanged Rust, where this machine has Python, a Rust compiler, the sources and the
 # real files; says so in plain words where it has not.
 set -u
@@ -13,7 +13,7 @@ if command -v python3 >/dev/null 2>&1; then
     echo "vectors: $vectors is what tests/vectors/all.sh writes"
     python3 tests/vectors/lookup_model.py <crates/lookup_cases/stdin || exit 1
 else
-    echo "vectors: no python3 here, so $vectors was not made again, and no lookup was held to document 01"
+    echo "vectors: no python3 here, so $vectors was not made again, and no lookup was held to RULES"
 fi
 if command -v rustc >/dev/null 2>&1; then
     rustc --edition 2021 -O -o "$tmp/second" tests/vectors/second.rs || exit 1

@@ -1,9 +1,7 @@
 #!/usr/bin/env python3
-"""Holds the vectors of whole lookups to document 01, written down once more: reads them on standard input, answers
-each case by the rules as the document words them, and says how many differ. Checks the blocks' edges too."""
+"""Holds the vectors of whole lookups to RULES, written down once more: reads them on standard input, answers
+each case by the rules as that page words them, and says how many differ."""
 import sys
-
-BLOCK = 131072
 
 
 class Refused(Exception):
@@ -198,11 +196,8 @@ def digest(numbers):
 
 def main():
     sys.setrecursionlimit(10000)
-    data = sys.stdin.read()
-    for edge in range(BLOCK, len(data), BLOCK):
-        assert data[edge - 1] == "\n", f"a line crosses the block's edge at {edge}"
     file, cases, differ, records = b"", 0, 0, []
-    for line in data.split("\n"):
+    for line in sys.stdin.read().split("\n"):
         kind, words = line[:1], line[2:].split(" ")
         if kind == "@":
             file = b"" if words == ["."] else bytes.fromhex(words[0])
@@ -219,8 +214,8 @@ def main():
                 numbers, records = digest(numbers + sum(records, [])), []
             if (number, want) != (got, numbers):
                 differ += 1
-                print(f"{line}\n  document 01: {got:x}", numbers)
-    print(f"lookups by document 01: {cases} cases, {differ} differ")
+                print(f"{line}\n  RULES: {got:x}", numbers)
+    print(f"lookups by RULES: {cases} cases, {differ} differ")
     return 1 if differ or records or not cases else 0
 
 

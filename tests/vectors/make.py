@@ -69,7 +69,7 @@ def leb128():
     for data, value in (('02', 2), ('7e', -2), ('ff00', 127), ('817f', -127), ('8001', 128), ('807f', -128),
                         ('8101', 129), ('ff7e', -129)):
         case('s', bytes.fromhex(data), a=value & MASK64, b=len(data) // 2)
-    remark('document 01, T1 to T5')
+    remark('RULES, T1 to T5')
     case('u', bytes.fromhex('b964'), a=12857, b=2)
     case('s', bytes.fromhex('807f'), a=-128 & MASK64, b=2)
     case('u', bytes.fromhex('ff' * 9 + '01'), a=MASK64, b=10)
@@ -183,7 +183,7 @@ def utf8_cases():
         judged(bytes([0xe1, 0x80, wrong]))
         judged(bytes([0xf1, 0x80, wrong, 0x80]))
         judged(bytes([0xf1, 0x80, 0x80, wrong]))
-    remark('the length of a sequence by its first byte, as document 01 says it')
+    remark('the length of a sequence by its first byte, as RULES has it')
     for lead in range(256):
         length = 1 if lead < 0x80 else 2 if 0xc2 <= lead <= 0xdf else 3 if 0xe0 <= lead <= 0xef else 4 if 0xf0 <= lead <= 0xf4 else 0
         case('l', b'', r=lead, a=length)
@@ -199,7 +199,7 @@ def toward_zero(a, d):
     return abs(a) // abs(d) * (1 if (a < 0) == (d < 0) else -1)
 
 
-def int64():
+def signed_sums():
     edges = (0, 1, 2, 2**63 - 1, 2**63, 2**63 + 1, MASK64 - 1, MASK64)
     remark('wrapping sums and differences')
     for p in edges:
@@ -221,4 +221,4 @@ fixed()
 leb128()
 strings()
 utf8_cases()
-int64()
+signed_sums()

@@ -7,31 +7,31 @@ use std::fmt;
 pub enum Refusal {
     /// No symbol covers the address.
     UnknownAddress = 1,
-    /// Too few bytes for the header or a table.
+    /// The file ends inside its header or a table.
     TooFewBytes = 2,
     /// Not a GSYM file, or one of the other byte order.
     WrongMagic = 3,
     /// A version other than 1.
     WrongVersion = 4,
-    /// The address information doesn't read.
+    /// The symbol's information doesn't read.
     UnreadInfo = 5,
-    /// The name of the symbol or of a frame doesn't read, or is not UTF-8.
+    /// The name of the symbol or of an inlined call doesn't read, or is not UTF-8.
     UnreadName = 6,
     /// A file index that is not below the file count.
     UnknownFile = 7,
-    /// A directory or a file string doesn't read.
+    /// A directory or a file name doesn't read.
     UnreadPath = 8,
     /// The header of a line table doesn't read.
     UnreadLineHeader = 9,
-    /// Inline bytes don't read.
+    /// An inline block doesn't read.
     UnreadInline = 10,
-    /// An inline start or end exceeds 2^64-1.
+    /// An inline range starts or ends above 2^64-1.
     InlineSumTooLarge = 11,
     /// A call file above 4,294,967,295.
     CallFileTooLarge = 12,
     /// Inlined calls on more than 64 levels.
     TooDeep = 13,
-    /// More frames than the lent list has room for.
+    /// More frames than there is room for.
     TooManyFrames = 14,
 }
 
@@ -68,30 +68,30 @@ impl Refusal {
         self as u8
     }
 
-    /// It in words.
+    /// It in words, as its `Display` and the page of the C face have it.
     pub fn text(self) -> &'static str {
         match self {
-            Refusal::UnknownAddress => "address unknown",
-            Refusal::TooFewBytes => "too few bytes for header or a table",
-            Refusal::WrongMagic => "wrong magic",
-            Refusal::WrongVersion => "version not 1",
-            Refusal::UnreadInfo => "address information doesn't read",
-            Refusal::UnreadName => "symbol or frame name doesn't read",
-            Refusal::UnknownFile => "file index not below the file count",
-            Refusal::UnreadPath => "directory or file string doesn't read",
-            Refusal::UnreadLineHeader => "line table header doesn't read",
-            Refusal::UnreadInline => "inline bytes don't read",
-            Refusal::InlineSumTooLarge => "an inline start or end exceeds 2^64-1",
-            Refusal::CallFileTooLarge => "call file above 4,294,967,295",
-            Refusal::TooDeep => "a node on level 65",
-            Refusal::TooManyFrames => "more frames than room",
+            Refusal::UnknownAddress => "no symbol covers the address",
+            Refusal::TooFewBytes => "the file ends inside its header or a table",
+            Refusal::WrongMagic => "not a GSYM file, or one of the other byte order",
+            Refusal::WrongVersion => "a version other than 1",
+            Refusal::UnreadInfo => "the symbol's information doesn't read",
+            Refusal::UnreadName => "the name of the symbol or of an inlined call doesn't read, or is not UTF-8",
+            Refusal::UnknownFile => "a file index that is not below the file count",
+            Refusal::UnreadPath => "a directory or a file name doesn't read",
+            Refusal::UnreadLineHeader => "the header of a line table doesn't read",
+            Refusal::UnreadInline => "an inline block doesn't read",
+            Refusal::InlineSumTooLarge => "an inline range starts or ends above 2^64-1",
+            Refusal::CallFileTooLarge => "a call file above 4,294,967,295",
+            Refusal::TooDeep => "inlined calls on more than 64 levels",
+            Refusal::TooManyFrames => "more frames than there is room for",
         }
     }
 }
 
 impl fmt::Display for Refusal {
     fn fmt(&self, f: &mut fmt::Formatter<'_>) -> fmt::Result {
-        write!(f, "{} ({})", self.text(), self.number())
+        f.write_str(self.text())
     }
 }
 

@@ -88,6 +88,6 @@ fn refusals_have_their_numbers() {
         assert_eq!(usize::from(r.number()), i + 1);
         assert!(!r.text().is_empty());
     }
-    assert_eq!(Refusal::TooDeep.to_string(), "a node on level 65 (13)");
-    assert_eq!(version(), 100);
+    assert_eq!(Refusal::TooDeep.to_string(), "inlined calls on more than 64 levels");
+    assert_eq!(version(), 200);
 }

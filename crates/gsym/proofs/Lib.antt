@@ -1,3 +1,5 @@
-pub mod Rooms
-pub mod Told
-pub mod Blocks
+mod CallOrder
+mod Over
+mod Written
+mod Promised
+mod SingleBlock

@@ -1,49 +1,95 @@
--- What the two calls of C hosts tell, by what those that they hand on to do.
+-- What the calls of C hosts tell, by what the calls that they hand on to do.
 -- Assumes nothing.
-use Rattle.std.proofs.Common.{Ok, Err, Result, IsOk, IfOk, IsErrOf, ℕ, List, take, ◌↔◌, ◌≡◌, ◌≢◌, refl}
-use Rattle.types.specs.declared.InlineFrame.{InlineFrame}
-use Rattle.types.specs.declared.Refusal.{Refusal}
-use Rattle.types.specs.Refusal.{number_of}
-use Rattle.inline.specs.Reads.{Reads}
-use Rattle.inline.specs.ListsFrames.{ListsFrames}
-use Rattle.inline.specs.Steps.{steps_of}
-use Rattle.inline.specs.FirstFault.{FirstFault}
-use Rattle.inline.proofs.Numbers.{never}
-use Rattle.inline.proofs.Names.{not-zero}
-use Rattle.inline.proofs.FirstFault.{reads-no-fault}
+use Rattle.std.proofs.Common.{Ok, Err, Result, IsOk, IfOk, IfErr, Option, Some, None, true, ℕ, ◌≤◌, List, take, subst, ◌↔◌, ◌≡◌, refl, ap, arith}
+use Rattle.std.specs.Result.{IsErrOf}
+use Rattle.gsym_types.specs.declared.InlineFrame.{InlineFrame}
+use Rattle.gsym_types.specs.declared.Refusal.{Refusal}
+use Rattle.gsym_types.specs.Refusal.{number_of}
+use Rattle.gsym_inline.specs.Reads.{Reads}
+use Rattle.gsym_inline.specs.ListsFrames.{ListsFrames}
+use Rattle.gsym_inline.specs.Steps.{steps_of}
+use Rattle.gsym_inline.specs.FirstFault.{FirstFault}
+use Rattle.gsym_types.specs.declared.Address.{Address}
+use Rattle.gsym_types.specs.declared.Answer.{Answer}
+use Rattle.gsym_types.specs.declared.Frame.{Frame}
+use Rattle.gsym_types.specs.declared.Options.{Options}
+use Rattle.gsym_types.specs.declared.Position.{Position}
+use Rattle.gsym_parser.specs.Entries.{covered_by}
+use Rattle.gsym_resolver.specs.Lookup.{lookup_of, looked_up}
+use Rattle.gsym_resolver.specs.Blocks.{RefusedByBlock}
+use Rattle.gsym.specs.Lookups.{room_in, records_in, MeetsLookup}
 use Rattle.gsym_c.specs.declared.GsymListed.{GsymListed}
-use Rattle.gsym_c.specs.Laid.{laid_listed}
+use Rattle.gsym_c.specs.Laid.{address, with_position, answered, answer_in, listed}
+use Rattle.gsym_c.proofs.Numbers.{number_range, number_same}
 
-module _ (symbol addr room : ℕ) (bytes : List ℕ) (exit : List InlineFrame) (r : Result ℕ Refusal)
-    (g : GsymListed) (laid : g ≡ laid_listed r) where
-  pub told-listed :
-      IsOk r ↔ Reads symbol addr room bytes → IfOk r (λ n. ListsFrames symbol addr room bytes (take n exit)) →
-      (g.number ≡ 0) ↔ ListsFrames symbol addr room bytes (take g.count exit)
-  told-listed = go r laid
+module _ (symbol addr room : ℕ) (bytes : List ℕ) (result : Result ℕ Refusal) (g : GsymListed) (laid : g ≡ listed result) where
+  pub told_listed :
+      (after : List InlineFrame) →
+      IsOk result ↔ Reads symbol addr room bytes → IfOk result (λ n. ListsFrames symbol addr room bytes (take n after)) →
+      (g.number ≡ 0) ↔ ListsFrames symbol addr room bytes (take g.count after)
+  told_listed after = go result laid
     where
-      go : (x : Result ℕ Refusal) → g ≡ laid_listed x →
-          IsOk x ↔ Reads symbol addr room bytes → IfOk x (λ n. ListsFrames symbol addr room bytes (take n exit)) →
-          (g.number ≡ 0) ↔ ListsFrames symbol addr room bytes (take g.count exit)
+      go : (x : Result ℕ Refusal) → g ≡ listed x →
+          IsOk x ↔ Reads symbol addr room bytes → IfOk x (λ n. ListsFrames symbol addr room bytes (take n after)) →
+          (g.number ≡ 0) ↔ ListsFrames symbol addr room bytes (take g.count after)
       go (Ok n) e h l = rw e (λ _. l, λ F. refl)
       go (Err k) e h l =
+          rw e (λ z. absurd (omega (arith, (number_range k).0)), λ F. let z = h.1 F.reads in absurd cc)
+
+  pub told_refused :
+      ((k : Refusal) → IsErrOf result k ↔ FirstFault room (steps_of symbol addr bytes) k) →
+      (k : Refusal) → (g.number ≡ number_of k) ↔ FirstFault room (steps_of symbol addr bytes) k
+  told_refused h k = go result laid (h k)
+    where
+      go : (x : Result ℕ Refusal) → g ≡ listed x →
+          IsErrOf x k ↔ FirstFault room (steps_of symbol addr bytes) k →
+          (g.number ≡ number_of k) ↔ FirstFault room (steps_of symbol addr bytes) k
+      go (Ok n) e f =
+          rw e (λ z. absurd (omega (arith, (number_range k).0)), λ F. let z = f.1 F in absurd cc)
+      go (Err r) e f =
           rw e (
-            λ z. absurd (not-zero k z),
-            λ F. never (let z = h.1 F.reads in let n : ◌≡◌ {A = ℕ} 0 1 = cc in n),
+            λ z. let q = number_same r k z in f.0 cc,
+            λ F. let z = f.1 F in let q : r ≡ k = cc in ap number_of q,
           )
 
-  pub told-refused :
-      IsOk r ↔ Reads symbol addr room bytes →
-      ((k : Refusal) → IsErrOf r k ↔ FirstFault room (steps_of symbol addr bytes) (number_of k)) →
-      (g.number ≢ 0) ↔ FirstFault room (steps_of symbol addr bytes) g.number
-  told-refused = go r laid
+-- ---- a lookup
+
+module _ (file : List ℕ) (addr : Address) (o : Options) (found : Result Answer Refusal) (old new : List Frame)
+    (p : MeetsLookup file addr o found old new) where
+  pub told_exact : answered found ≡ answered (answer_in (lookup_of file addr o (room_in old)))
+  told_exact = go found p.exact
     where
-      go : (x : Result ℕ Refusal) → g ≡ laid_listed x →
-          IsOk x ↔ Reads symbol addr room bytes →
-          ((k : Refusal) → IsErrOf x k ↔ FirstFault room (steps_of symbol addr bytes) (number_of k)) →
-          (g.number ≢ 0) ↔ FirstFault room (steps_of symbol addr bytes) g.number
-      go (Ok n) e h f =
-          rw e (
-            λ z. absurd (z refl),
-            λ F z. (reads-no-fault symbol addr room bytes).0 (h.0 refl) F.before F.step F.after 0 F.split F.fault,
-          )
-      go (Err k) e h f = rw e (λ z. (f k).0 refl, λ F z. not-zero k z)
+      go :
+          (x : Result Answer Refusal) → looked_up x (records_in x new) ≡ lookup_of file addr o (room_in old) →
+          answered x ≡ answered (answer_in (lookup_of file addr o (room_in old)))
+      go (Ok a) e = ap (λ l. answered (answer_in l)) e
+      go (Err r) e = ap (λ l. answered (answer_in l)) e
+
+  pub told_covered : (answered found).number ≡ 0 → covered_by addr (address (answered found).addr) (answered found).size ≡ true
+  told_covered = go found p.covered
+    where
+      covers : (a : Answer) (q : Option Position) → covered_by addr a.addr a.size ≡ true →
+          covered_by addr (address (with_position a q).addr) (with_position a q).size ≡ true
+      covers a (Some q) h = h
+      covers a None h = h
+
+      go :
+          (x : Result Answer Refusal) → IfOk x (λ a. covered_by addr a.addr a.size ≡ true) → (answered x).number ≡ 0 →
+          covered_by addr (address (answered x).addr) (answered x).size ≡ true
+      go (Ok a) h z = covers a a.position h
+      go (Err r) h z = absurd (omega (arith, (number_range r).0))
+
+  pub told_blocks :
+      (r : Refusal) → (answered found).number ≡ number_of r → 10 ≤ (answered found).number →
+      RefusedByBlock file addr o (room_in old) r
+  told_blocks r = go found p.blocks
+    where
+      zero-number : (a : Answer) (q : Option Position) → (with_position a q).number ≡ 0
+      zero-number a (Some q) = refl
+      zero-number a None = refl
+
+      go :
+          (x : Result Answer Refusal) → IfErr x (λ s. 10 ≤ number_of s → RefusedByBlock file addr o (room_in old) s) →
+          (answered x).number ≡ number_of r → 10 ≤ (answered x).number → RefusedByBlock file addr o (room_in old) r
+      go (Ok a) h e l = absurd (omega (arith, zero-number a a.position))
+      go (Err s) h e l = subst (RefusedByBlock file addr o (room_in old)) (number_same s r e) (h l)

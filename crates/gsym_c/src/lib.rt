@@ -1,27 +1,36 @@
-// What C hosts call; include/gsym.h is their manual. Each function hands its arguments on, and lays the answer out as C
-// has it. The records of the lent list are laid out so already.
+//! What C hosts call; include/gsym.h is their manual. Each function hands its arguments on to `gsym`, and lays the answer
+//! out as C has it: a number in place of a refusal, and zeros where there is nothing. The records of the lent list are
+//! laid out so already.
 #![tactic(auto)]
 
-ghost use Rattle.std.specs.Prelude.{◌≡◌, ◌≢◌, ◌↔◌, ◌≤◌, min, length, take, drop};
-ghost use Rattle.types.specs.Refusal.{refusal};
-ghost use Rattle.inline.specs.Block.{block_of};
-ghost use Rattle.inline.specs.ListsFrames.{ListsFrames};
-ghost use Rattle.inline.specs.Steps.{steps_of};
-ghost use Rattle.inline.specs.FirstFault.{FirstFault};
-ghost use Rattle.resolver.specs.Lookup.{lookup_of};
-ghost use Rattle.resolver.specs.Met.{Met};
-ghost use Rattle.resolver.specs.Blocks.{RefusedByBlock};
-ghost use Rattle.gsym.specs.Lists.{written_over, block_over, counted};
-ghost use Rattle.gsym_c.specs.Laid.{address, options_of, flag, laid, laid_listed};
+mod laws;
 
-use types::{Address, Answer, Frame, InlineFrame, Options, Refusal};
+ghost use Rattle.std.specs.Prelude.{◌≡◌, ◌≢◌, ◌↔◌, ◌≤◌, ◌⊎◌, true, false, min, length, take, drop, Ok, Result};
+ghost use Rattle.gsym_types.specs.declared.Answer.{Answer};
+ghost use Rattle.gsym_types.specs.declared.Refusal.{Refusal};
+ghost use Rattle.gsym_types.specs.Refusal.{number_of};
+ghost use Rattle.gsym_inline.specs.Block.{block_of};
+ghost use Rattle.gsym_inline.specs.ListsFrames.{ListsFrames};
+ghost use Rattle.gsym_inline.specs.Steps.{steps_of};
+ghost use Rattle.gsym_inline.specs.FirstFault.{FirstFault};
+ghost use Rattle.gsym_parser.specs.Entries.{covered_by};
+ghost use Rattle.gsym_resolver.specs.Lookup.{lookup_of};
+ghost use Rattle.gsym_resolver.specs.Blocks.{RefusedByBlock};
+ghost use Rattle.gsym_resolver.specs.Met.{Met};
+ghost use Rattle.gsym.specs.Lookups.{MeetsLookup};
+ghost use Rattle.gsym_c.specs.Laid.{address, options_of, answered, answer_in, refused_as, listed, block_listed};
 
-// The version, 0.1.0, as include/gsym.h counts it.
-const VERSION: u32 = 100;
+use gsym::{Address, Answer, Frame, InlineFrame, Options, Position, Refusal};
+pub use laws::option_bits;
 
-// What a lookup answers, as C has it.
+/// The version, 0.2.0, as include/gsym.h counts it.
+const VERSION: u32 = 200;
+
+/// What a lookup answers, as C has it. The number is 0 where there is an answer, and else that of the refusal; every
+/// other field is then 0. A text is its place, counted from the file's start, and its length, both in bytes; without a
+/// position `has_code` is 0, and line, directory and file are.
 #[repr(C)]
-#[derive(Drop)]
+#[derive(Clone, Copy, Debug, PartialEq, Eq, Default, Hash)]
 pub struct GsymAnswer {
     pub number: u32,
     pub has_code: u32,
@@ -37,9 +46,9 @@ pub struct GsymAnswer {
     pub count: u64,
 }
 
-// What reading a block answers, as C has it.
+/// What reading a block answers, as C has it: how many frames, and number 0; or the number of the refusal, and none.
 #[repr(C)]
-#[derive(Drop)]
+#[derive(Clone, Copy, Debug, PartialEq, Eq, Default, Hash)]
 pub struct GsymListed {
     pub count: u64,
     pub number: u32,
@@ -47,13 +56,7 @@ pub struct GsymListed {
 
 // ---- lookup
 
-fn flag_of(on: bool) -> u32
-    ensures { result ≡ flag on }
-{
-    if on { 1 } else { 0 }
-}
-
-// What the bits ask for.
+// What the bits ask for, which are C's.
 fn asked_by(bits: u32) -> Options
     ensures { result ≡ options_of bits }
 {
@@ -64,35 +67,49 @@ fn asked_by(bits: u32) -> Options
 }
 
 // An answer as C has it.
-fn lay_out(a: Answer) -> GsymAnswer
-    ensures { result ≡ laid a }
+fn lay_out(answer: Result<Answer, Refusal>) -> GsymAnswer
+    ensures { result ≡ answered answer }
 {
-    let has_code = flag_of(a.has_code);
-    let name = a.name;
-    let dir = a.dir;
-    let file = a.file;
-    let number = a.number as u32;
-    let count = a.count as u64;
-    GsymAnswer {
-        number,
-        has_code,
-        addr: a.addr.0,
-        size: a.size,
-        line: a.line.0,
-        name_place: name.place as u64,
-        name_len: name.len as u64,
-        dir_place: dir.place as u64,
-        dir_len: dir.len as u64,
-        file_place: file.place as u64,
-        file_len: file.len as u64,
-        count,
+    match answer {
+        Ok(found) => {
+            let has_code = found.position.is_some() as u32;
+            let position = found.position.unwrap_or_default();
+            GsymAnswer {
+                number: 0,
+                has_code,
+                addr: found.addr.0,
+                size: found.size,
+                line: position.line.0,
+                name_place: found.name.place as u64,
+                name_len: found.name.len as u64,
+                dir_place: position.dir.place as u64,
+                dir_len: position.dir.len as u64,
+                file_place: position.file.place as u64,
+                file_len: position.file.len as u64,
+                count: found.count as u64,
+            }
+        }
+        Err(refusal) => GsymAnswer {
+            number: refusal.number() as u32,
+            has_code: 0,
+            addr: 0,
+            size: 0,
+            line: 0,
+            name_place: 0,
+            name_len: 0,
+            dir_place: 0,
+            dir_len: 0,
+            file_place: 0,
+            file_len: 0,
+            count: 0,
+        },
     }
 }
 
-// The symbol of an address, with what `options` ask for: bit 0 its source position, bit 1 the calls inlined there, both
-// or nothing of them; other bits are ignored. The records go to the front of `frames`, with room for the smaller of 64
-// and its length. Written are exactly the records; a refusal (1 to 14) writes none, and without both bits the list
-// isn't touched, nor is space for records filled.
+/// The symbol of an address, with what `options` ask for: bit 0 its source position, bit 1 the calls inlined there, both
+/// or nothing of them; other bits are ignored. The records go to the front of `frames`, with room for as many frames as
+/// it has places, and for 64 at most. Written are exactly the records; a refusal (1 to 14) writes none, and without both
+/// bits the list isn't touched, nor is space for records filled (RULES, "Calls").
 #[unsafe(no_mangle)]
 pub extern "C" fn gsym_lookup(
     file: &[u8],
@@ -101,44 +118,52 @@ pub extern "C" fn gsym_lookup(
     frames: &mut [Frame],
 ) -> GsymAnswer
     ensures number { result.number ≤ 14 }
-    // other than 0 exactly if its condition is met, of several the first in the order of RULES
-    ensures refused { (result.number ≢ 0)
-        ↔ Met file.now (address addr) (options_of options) (min 64 (length frames.old)) result.number }
-    ensures zeros { result.number ≢ 0 → (result ≡ laid (refusal result.number)) × (frames.new ≡ frames.old) }
-    // a number from 10 on is that of the first fault of one of the entry's blocks, the first that doesn't list none
-    ensures blocks { 10 ≤ result.number
-        → RefusedByBlock file.now (address addr) (options_of options) (min 64 (length frames.old)) result.number }
+    // A number from 1 on exactly where the condition of that refusal is met, of several the first in the order of RULES.
+    ensures refused { (r : Refusal) → (result.number ≡ number_of r)
+        ↔ Met file.now (address addr) (options_of options) (min 64 (length frames.old)) r }
+    // Every other field is then 0, and the list as it was.
+    ensures zeros { result.number ≢ 0 → (result ≡ refused_as result.number) × (frames.new ≡ frames.old) }
+    // From 10 on it is the first fault of one of the entry's blocks, the first that doesn't list none.
+    ensures blocks { (r : Refusal) → result.number ≡ number_of r → 10 ≤ result.number
+        → RefusedByBlock file.now (address addr) (options_of options) (min 64 (length frames.old)) r }
+    ensures covered { result.number ≡ 0
+        → covered_by (address addr) (address result.addr) result.size ≡ true }
+    ensures below { result.addr ≤ addr }
     ensures within { result.count ≤ length frames.new }
     ensures stays { drop result.count frames.new ≡ drop result.count frames.old }
-    ensures below { result.addr ≤ addr }
-    ensures answer { result
-        ≡ laid (lookup_of file.now (address addr) (options_of options) (min 64 (length frames.old))).answer }
-    ensures list { frames.new
-        ≡ written_over (lookup_of file.now (address addr) (options_of options) (min 64 (length frames.old))) frames.old }
+    ensures bare { ((options_of options).code_info ≡ false) ⊎ ((options_of options).inlining ≡ false)
+        → frames.new ≡ frames.old }
+    ensures exact { result ≡ answered
+        (answer_in (lookup_of file.now (address addr) (options_of options) (min 64 (length frames.old)))) }
+    // It is the answer of `gsym::lookup`, with all that that promises, laid out as C has it.
+    ensures promises { (found : Result Answer Refusal) × (result ≡ answered found)
+        × MeetsLookup file.now (address addr) (options_of options) found frames.old frames.new }
 {
-    lay_out(gsym::lookup(file, Address(addr), asked_by(options), frames))
+    let found = gsym::open(file).lookup(Address(addr), asked_by(options), frames);
+    lay_out(found)
 }
 
 // ---- a single block
 
 // What a block has, as C has it.
 fn lay_listed(read: Result<usize, Refusal>) -> GsymListed
-    ensures { result ≡ laid_listed read }
+    ensures { result ≡ listed read }
 {
     match read {
         Ok(count) => GsymListed {
             count: count as u64,
-            number: types::FOUND as u32,
+            number: 0,
         },
-        Err(refusal) => GsymListed {
+        Err(fault) => GsymListed {
             count: 0,
-            number: refusal.number() as u32,
+            number: fault.number() as u32,
         },
     }
 }
 
-// The frames of one block at an address, for the symbol that it belongs to: `gsym::block_frames`. There is room for the
-// smaller of 64 and the list's length. Written are exactly the frames; a refusal (10 to 14) writes none.
+/// The frames of one block at an address, for the symbol that it belongs to: `gsym::block_frames`. There is room for as
+/// many as the list has places, and for 64 at most. Written are exactly the frames; a refusal (10 to 14) writes none
+/// (RULES, "Inline tree").
 #[unsafe(no_mangle)]
 pub extern "C" fn gsym_block_frames(
     block: &[u8],
@@ -146,25 +171,27 @@ pub extern "C" fn gsym_block_frames(
     addr: u64,
     frames: &mut [InlineFrame],
 ) -> GsymListed
-    // 0 exactly if the block reads: the list then begins with its frames, those of its open nodes that have a name
+    ensures number { result.number ≤ 14 }
+    // 0 exactly if the block reads: the list then begins with its frames, those of its open nodes that have a name.
     ensures listed { (result.number ≡ 0)
         ↔ ListsFrames symbol addr (min 64 (length frames.old)) block.now (take result.count frames.new) }
-    // another number exactly if it is that of the first fault among the steps of reading the block
-    ensures refused { (result.number ≢ 0)
-        ↔ FirstFault (min 64 (length frames.old)) (steps_of symbol addr block.now) result.number }
+    // Another number exactly if it is that of the first fault among the steps of reading the block.
+    ensures refused { (r : Refusal) → (result.number ≡ number_of r)
+        ↔ FirstFault (min 64 (length frames.old)) (steps_of symbol addr block.now) r }
     ensures zeros { result.number ≢ 0 → (result.count ≡ 0) × (frames.new ≡ frames.old) }
     ensures within { (result.count ≤ length frames.new) × (result.count ≤ 64) }
     ensures stays { drop result.count frames.new ≡ drop result.count frames.old }
-    ensures answer { result ≡ laid_listed (counted (block_of symbol addr (min 64 (length frames.old)) block.now)) }
-    ensures list { frames.new ≡ block_over (block_of symbol addr (min 64 (length frames.old)) block.now) frames.old }
+    ensures exact { result ≡ block_listed (block_of symbol addr (min 64 (length frames.old)) block.now) }
+    ensures list { result.number ≡ 0
+        → Ok (take result.count frames.new) ≡ block_of symbol addr (min 64 (length frames.old)) block.now }
 {
     lay_listed(gsym::block_frames(block, Address(symbol), Address(addr), frames))
 }
 
-// The version of the library.
+/// The version of the library.
 #[unsafe(no_mangle)]
 pub extern "C" fn gsym_version() -> u32
-    ensures { result ≡ 100 }
+    ensures { result ≡ 200 }
 {
     VERSION
 }

@@ -1,14 +1,16 @@
-// What is asked, and what the reader answers, as numbers.
+//! What is asked, and what the reader answers, as numbers.
 use arrayvec::ArrayVec;
+use gsym_resolver::Records;
+use gsym_types::{Address, Answer, Frame, Options, Refusal};
 use std::fmt;
-use types::{Address, Answer, Frame, Options};
 
-// How many numbers an answer and each of its records have on a line.
+/// How many numbers an answer has on a line.
 pub const ANSWER_LEN: usize = 12;
 
+/// How many numbers a record has on a line.
 pub const RECORD_LEN: usize = 7;
 
-// What a case asks, and how many records it lends.
+/// What a case asks, and how many records it lends.
 #[derive(Clone, Copy)]
 pub struct Question {
     pub addr: Address,
@@ -16,50 +18,52 @@ pub struct Question {
     pub room: usize,
 }
 
-// An answer's numbers in the order of a line, its refusal number first, and the list that was lent.
+/// An answer's numbers in the order of a line, its refusal number first, and the list that was lent.
 #[derive(Drop)]
 pub struct Answered {
     pub numbers: [u64; ANSWER_LEN],
-    list: ArrayVec<Frame, 64>,
-    // without inlining: the call that takes no list answers the same, and the list is as it was
+    list: Records,
+    /// without inlining: the call that takes no list answers the same, and the list is as it was
     pub agrees_without_list: bool,
 }
 
-fn numbers_of(answer: Answer) -> [u64; ANSWER_LEN] {
-    [
-        answer.number as u64,
-        answer.addr.0,
-        answer.size as u64,
-        answer.name.place as u64,
-        answer.name.len as u64,
-        u64::from(answer.has_code),
-        answer.dir.place as u64,
-        answer.dir.len as u64,
-        answer.file.place as u64,
-        answer.file.len as u64,
-        answer.line.0 as u64,
-        answer.count as u64,
-    ]
+// An answer's numbers: 0 and what it says, with zeros where there is no position; or a refusal's number and zeros.
+fn numbers_of(looked_up: Result<Answer, Refusal>) -> [u64; ANSWER_LEN] {
+    match looked_up {
+        Err(refusal) => [refusal.number() as u64, 0, 0, 0, 0, 0, 0, 0, 0, 0, 0, 0],
+        Ok(answer) => {
+            let position = answer.position.unwrap_or_default();
+            [
+                0,
+                answer.addr.0,
+                answer.size as u64,
+                answer.name.place as u64,
+                answer.name.len as u64,
+                u64::from(answer.position.is_some()),
+                position.dir.place as u64,
+                position.dir.len as u64,
+                position.file.place as u64,
+                position.file.len as u64,
+                position.line.0 as u64,
+                answer.count as u64,
+            ]
+        }
+    }
 }
 
 impl Question {
+    /// What the reader answers, with a list of 64 records of which it may use `room`.
     pub fn ask(self, file: &[u8]) -> Answered {
         let Question {
             addr,
             options,
             room,
         } = self;
-        let mut list: ArrayVec<Frame, 64> = ArrayVec::new();
-        let answer = resolver::lookup_in(
-            file,
-            addr,
-            options,
-            room.min(types::MAX_FRAMES),
-            &mut list,
-        );
-        let numbers = numbers_of(answer);
+        let mut list: Records = ArrayVec::new();
+        let looked_up = gsym_resolver::lookup_in(file, addr, options, room, &mut list);
+        let numbers = numbers_of(looked_up);
         let agrees_without_list = options.inlining
-            || numbers == numbers_of(resolver::lookup_plain(file, addr, options.code_info))
+            || numbers == numbers_of(gsym_resolver::lookup_plain(file, addr, options.code_info))
                 && list.is_empty();
         Answered {
             numbers,
@@ -70,14 +74,14 @@ impl Question {
 }
 
 impl Answered {
-    // The numbers of a record of the list, none past its end.
+    /// The numbers of a record of the list, none past its end.
     pub fn record(&self, index: usize) -> Option<[u64; RECORD_LEN]> {
         let frame = self.list.as_slice().get(index)?;
         Some(record_numbers(*frame))
     }
 
-    // From 0 on, for each number behind the first and of the records: itself times 1,000,003, plus the number, plus 1,
-    // modulo 2^64.
+    /// From 0 on, for each number behind the first and of the records: itself times 1,000,003, plus the number, plus 1,
+    /// modulo 2^64.
     pub fn digest(&self) -> u64 {
         let mut digest = digested(0, &self.numbers[1..]);
         for frame in self.list.as_slice() {
@@ -92,11 +96,11 @@ fn record_numbers(frame: Frame) -> [u64; RECORD_LEN] {
     [
         frame.name.place as u64,
         frame.name.len as u64,
-        frame.dir.place as u64,
-        frame.dir.len as u64,
-        frame.file.place as u64,
-        frame.file.len as u64,
-        frame.line.0 as u64,
+        frame.position.dir.place as u64,
+        frame.position.dir.len as u64,
+        frame.position.file.place as u64,
+        frame.position.file.len as u64,
+        frame.position.line.0 as u64,
     ]
 }
 
@@ -109,7 +113,7 @@ fn digested(start: u64, numbers: &[u64]) -> u64 {
     })
 }
 
-// Numbers in hexadecimal, a space before each.
+/// Numbers in hexadecimal, a space before each.
 #[derive(Clone, Copy)]
 pub struct Words<'a>(pub &'a [u64]);
 

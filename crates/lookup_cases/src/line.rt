@@ -1,19 +1,21 @@
-// A line of the vectors: a letter, and numbers or bytes in hexadecimal, parted by single spaces.
+//! A line of the vectors: a letter, and numbers or bytes in hexadecimal, parted by single spaces.
 use crate::answered::{ANSWER_LEN, Answered, Question, RECORD_LEN};
 use anyhow::{Context, Result, bail};
+use gsym_types::{Address, Options};
 use std::alloc::Global;
-use types::{Address, Options};
 
+/// What a line says.
 #[derive(Drop)]
 pub enum Line {
-    // the file of the cases after it
+    /// the file of the cases after it
     File(Vec<u8>),
+    /// what is asked of that file, and what is expected
     Case(Question, Expected),
-    // a record of the case before it
+    /// a record of the case before it
     Record([u64; RECORD_LEN]),
 }
 
-// An answer's numbers, whose records stand on lines of their own; or its first number and a digest of all others.
+/// An answer's numbers, whose records stand on lines of their own; or its first number and a digest of all others.
 #[derive(Drop)]
 pub enum Expected {
     Whole([u64; ANSWER_LEN]),
@@ -21,6 +23,7 @@ pub enum Expected {
 }
 
 impl Expected {
+    /// Whether the answer is the expected one; records on lines of their own are judged apart.
     pub fn is_met_by(&self, answered: &Answered) -> bool {
         match self {
             Expected::Whole(numbers) => answered.numbers == *numbers,
@@ -30,7 +33,7 @@ impl Expected {
         }
     }
 
-    // How many lines of records are to follow.
+    /// How many lines of records are to follow.
     pub fn record_lines(&self) -> u64 {
         match self {
             Expected::Whole(numbers) => numbers[ANSWER_LEN - 1],
@@ -68,6 +71,7 @@ fn question(addr: u64, options: u64, room: u64) -> Question {
 }
 
 impl Line {
+    /// A line of one of the four kinds; an error where it is none or a number doesn't read.
     pub fn parse(alloc: Global, line: &str) -> Result<Line> {
         let (kind, words) = line.split_once(' ').context("a single word")?;
         if kind == "@" {

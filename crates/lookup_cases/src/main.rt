@@ -1,5 +1,5 @@
-// Replays the whole lookups on standard input, prints each line that differs, and then how many cases there were and
-// how many differ. tests/vectors/README.md says what the lines are and where the expected answers come from.
+//! Replays the whole lookups on standard input, prints each line that differs, and then how many cases there were and
+//! how many differ. tests/vectors/README.md says what the lines are and where the expected answers come from.
 #![tactic(auto)]
 
 mod answered;

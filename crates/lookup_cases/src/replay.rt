@@ -1,4 +1,4 @@
-// The lines one after the other: each case, and the records that belong to it.
+//! The lines one after the other: each case, and the records that belong to it.
 use crate::answered::{Answered, RECORD_LEN, Words};
 use crate::line::Line;
 use std::alloc::Global;
@@ -14,8 +14,8 @@ struct Case {
     seen: u64,
 }
 
-// The file of the present cases, and the last of them; how many cases there were before it, and how many of them
-// differ.
+/// The file of the present cases, and the last of them; how many cases there were before it, and how many of them
+/// differ.
 #[derive(Drop)]
 pub struct Replay {
     file: Vec<u8>,
@@ -47,6 +47,7 @@ impl Case {
 }
 
 impl Replay {
+    /// No file and no case yet.
     pub fn new(alloc: Global) -> Replay {
         Replay {
             file: Vec::new(alloc),
@@ -63,7 +64,7 @@ impl Replay {
         }
     }
 
-    // Counts the last case; one whose records did not all come differs.
+    /// Counts the last case; one whose records did not all come differs.
     pub fn close(&mut self, rt: &impl Print) -> io::Result<()> {
         if let Some(case) = self.last.take() {
             let missing = case.seen < case.record_lines;
@@ -86,7 +87,7 @@ impl Replay {
         println!(rt; "{line}\n  not replayed: {why}")
     }
 
-    // Remarks and empty lines say nothing.
+    /// Remarks and empty lines say nothing.
     pub fn take_line(&mut self, rt: &impl Print, alloc: Global, line: &str) -> io::Result<()> {
         if line.is_empty() || line.starts_with('#') {
             return Ok(());

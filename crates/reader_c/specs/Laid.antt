@@ -1,13 +1,13 @@
 -- Answers laid out as C has them.
 -- Assumes nothing.
-use Rattle.std.specs.Prelude.{ℕ, ℤ, Some, None, Ok, Err, Option, Result}
-use Rattle.types.specs.declared.Address.{Address}
-use Rattle.int64.specs.Wrap.{bits_of}
-use Rattle.leb128.specs.declared.Cause.{Cause}
-use Rattle.leb128.specs.declared.Cause.TheVariants.{Short, Wide}
-use Rattle.linetab.specs.declared.LineTableRow.{LineTableRow}
-use Rattle.types.specs.declared.Refusal.{Refusal}
-use Rattle.types.specs.Refusal.{number_of}
+use Rattle.std.specs.Prelude.{ℕ, ℤ, Some, None, Ok, Err, Option, Result, length}
+use Rattle.gsym_types.specs.declared.Address.{Address}
+use Rattle.std.specs.Int.{w64, cast_unsigned}
+use Rattle.gsym_leb128.specs.declared.Cause.{Cause}
+use Rattle.gsym_leb128.specs.declared.Cause.TheVariants.{Short, Wide}
+use Rattle.gsym_linetab.specs.declared.LineTableRow.{LineTableRow}
+use Rattle.gsym_types.specs.Refusal.{number_of}
+use Rattle.gsym_inline.specs.Block.{Block}
 use Rattle.reader_c.specs.declared.NumberAnswer.{NumberAnswer}
 use Rattle.reader_c.specs.declared.LineAnswer.{LineAnswer}
 use Rattle.reader_c.specs.declared.BlockAnswer.{BlockAnswer}
@@ -31,7 +31,7 @@ laid_unsigned (Ok (v, n)) = laid_number v n
 laid_unsigned (Err c) = numberless c
 
 abbrev pub laid_signed : Result (ℤ × ℕ) Cause → NumberAnswer
-laid_signed (Ok (v, n)) = laid_number (bits_of v) n
+laid_signed (Ok (v, n)) = laid_number (cast_unsigned w64 v) n
 laid_signed (Err c) = numberless c
 
 -- an answer without a row
@@ -46,6 +46,6 @@ laid_line (Err Short) = rowless 2
 laid_line (Err Wide) = rowless 3
 
 -- how many frames a block has, or its refusal's number
-abbrev pub laid_block : Result ℕ Refusal → BlockAnswer
-laid_block (Ok count) = record { count = count; number = 0 }
+abbrev pub laid_block : Block → BlockAnswer
+laid_block (Ok fs) = record { count = length fs; number = 0 }
 laid_block (Err r) = record { count = 0; number = number_of r }

@@ -1,23 +1,22 @@
-// Parts of the reader for programs that compare and measure them from C or Rust: each function here only hands its
-// arguments on and lays the answer out as C has it. What a host should call is another crate's business.
+//! Parts of the reader for programs that compare and measure them from C or Rust: each function here only hands its
+//! arguments on and lays the answer out as C has it. What a host should call is `gsym_c`'s business.
 #![tactic(auto)]
 
-ghost use Rattle.std.specs.Prelude.{◌≡◌, min, length};
-ghost use Rattle.leb128.specs.Answers.{unsigned_at, signed_at};
-ghost use Rattle.linetab.specs.Rows.{line_row};
-ghost use Rattle.inline.specs.Block.{block_of};
-ghost use Rattle.gsym.specs.Lists.{block_over, counted};
+ghost use Rattle.std.specs.Prelude.{◌≡◌, ◌≢◌, min, length, take, drop, Ok};
+ghost use Rattle.gsym_leb128.specs.Answers.{unsigned_at, signed_at};
+ghost use Rattle.gsym_linetab.specs.Rows.{line_row};
+ghost use Rattle.gsym_inline.specs.Block.{block_of};
 ghost use Rattle.reader_c.specs.Laid.{numberless, laid_unsigned, laid_signed};
 ghost use Rattle.reader_c.specs.Laid.{address, rowless, laid_line, laid_block};
 
-use leb128::Cause;
-use linetab::LineTableRow;
-use types::{Address, InlineFrame};
+use gsym::{Address, InlineFrame};
+use gsym_leb128::Cause;
+use gsym_linetab::LineTableRow;
 
-// A LEB128 number. tag 0: its value (a signed one as its 64 bits) and the place after it; 1: it ended short; 2: it is
-// too wide. Where there is no value the other fields are 0.
+/// A LEB128 number. tag 0: its value (a signed one as its 64 bits) and the place after it; 1: it ended short; 2: it is
+/// too wide. Where there is no value the other fields are 0.
 #[repr(C)]
-#[derive(Clone, Copy)]
+#[derive(Clone, Copy, Debug, PartialEq, Eq, Default, Hash)]
 pub struct NumberAnswer {
     pub value: u64,
     pub next: usize,
@@ -38,12 +37,12 @@ fn unread(cause: Cause) -> NumberAnswer
     }
 }
 
-// The unsigned number at a place: `leb128::unsigned_at`.
+/// The unsigned number at a place: `gsym_leb128::unsigned_at` (RULES, "LEB128").
 #[unsafe(no_mangle)]
 pub extern "C" fn gsym_unsigned(bytes: &[u8], at: usize) -> NumberAnswer
     ensures { result ≡ laid_unsigned (unsigned_at bytes.now at) }
 {
-    match leb128::unsigned_at(bytes, at) {
+    match gsym_leb128::unsigned_at(bytes, at) {
         Ok((value, next)) => NumberAnswer {
             value,
             next,
@@ -53,14 +52,15 @@ pub extern "C" fn gsym_unsigned(bytes: &[u8], at: usize) -> NumberAnswer
     }
 }
 
-// The signed number at a place: `leb128::signed_at`.
+/// The signed number at a place: `gsym_leb128::signed_at` (RULES, "LEB128").
 #[unsafe(no_mangle)]
 pub extern "C" fn gsym_signed(bytes: &[u8], at: usize) -> NumberAnswer
     ensures { result ≡ laid_signed (signed_at bytes.now at) }
 {
-    match leb128::signed_at(bytes, at) {
+    // Beside `gsym_unsigned`, since C calls each by its name.
+    match gsym_leb128::signed_at(bytes, at) {
         Ok((value, next)) => NumberAnswer {
-            value: int64::to_bits(value),
+            value: value.cast_unsigned(),
             next,
             tag: 0,
         },
@@ -68,10 +68,10 @@ pub extern "C" fn gsym_signed(bytes: &[u8], at: usize) -> NumberAnswer
     }
 }
 
-// The row of an address. tag 0: this row; 1: there is none; 2: the header ended short; 3: a number of it is too
-// wide. Where there is no row the other fields are 0.
+/// The row of an address. tag 0: this row; 1: there is none; 2: the header ended short; 3: a number of it is too
+/// wide. Where there is no row the other fields are 0.
 #[repr(C)]
-#[derive(Clone, Copy)]
+#[derive(Clone, Copy, Debug, PartialEq, Eq, Default, Hash)]
 pub struct LineAnswer {
     pub addr: u64,
     pub file: u32,
@@ -106,23 +106,25 @@ fn laid_line(read: Result<Option<LineTableRow>, Cause>) -> LineAnswer
     }
 }
 
-// The row of `addr` in a line table of the symbol at `symbol`: `linetab::line_row`.
+/// The row of `addr` in a line table of the symbol at `symbol`: `gsym_linetab::line_row` (RULES, "Line table").
 #[unsafe(no_mangle)]
 pub extern "C" fn gsym_line_row(block: &[u8], symbol: u64, addr: u64) -> LineAnswer
     ensures { result ≡ laid_line (line_row block.now (address symbol) (address addr)) }
 {
-    laid_line(linetab::line_row(block, Address(symbol), Address(addr)))
+    laid_line(gsym_linetab::line_row(block, Address(symbol), Address(addr)))
 }
 
-// What reading one inline block gives: number 0 and how many frames, or the refusal's number and 0.
+/// What reading one inline block gives: number 0 and how many frames, or the refusal's number and 0.
 #[repr(C)]
-#[derive(Clone, Copy)]
+#[derive(Clone, Copy, Debug, PartialEq, Eq, Default, Hash)]
 pub struct BlockAnswer {
     pub count: usize,
+    // As C has it: a number, 0 where there is no refusal.
     pub number: u8,
 }
 
-// The frames of one block at an address, to the front of `frames`: `gsym::block_frames`.
+/// The frames of one block at an address, to the front of `frames`: `gsym::block_frames`
+/// (RULES, "Inline tree").
 #[unsafe(no_mangle)]
 pub extern "C" fn gsym_block(
     block: &[u8],
@@ -130,8 +132,11 @@ pub extern "C" fn gsym_block(
     addr: u64,
     frames: &mut [InlineFrame],
 ) -> BlockAnswer
-    ensures answer { result ≡ laid_block (counted (block_of symbol addr (min 64 (length frames.old)) block.now)) }
-    ensures list { frames.new ≡ block_over (block_of symbol addr (min 64 (length frames.old)) block.now) frames.old }
+    ensures answer { result ≡ laid_block (block_of symbol addr (min 64 (length frames.old)) block.now) }
+    ensures stays { drop result.count frames.new ≡ drop result.count frames.old }
+    ensures kept { result.number ≢ 0 → frames.new ≡ frames.old }
+    ensures list { result.number ≡ 0
+        → Ok (take result.count frames.new) ≡ block_of symbol addr (min 64 (length frames.old)) block.now }
 {
     match gsym::block_frames(block, Address(symbol), Address(addr), frames) {
         Ok(count) => BlockAnswer { count, number: 0 },

@@ -1,8 +1,9 @@
-// A case on its line: `KIND BYTES P Q R TAG A B C D`, parted by single spaces, bytes and numbers in hexadecimal.
+//! A case on its line: `KIND BYTES P Q R TAG A B C D`, parted by single spaces, bytes and numbers in hexadecimal.
 use crate::said::Words;
 use anyhow::{Result, bail};
 use std::alloc::Global;
 
+/// A case: the leaf's letter, the bytes and numbers that it is asked with, and the answer that is expected.
 #[derive(Drop)]
 pub struct Case {
     pub kind: char,
@@ -26,6 +27,7 @@ fn parse_number(word: &str) -> Result<u64> {
 }
 
 impl Case {
+    /// A case from its line; an error where a word is missing or doesn't read.
     pub fn parse(alloc: Global, line: &str) -> Result<Case> {
         let words: Vec<&str> = line.split(' ').collect(alloc)?;
         let [kind, bytes, p, q, r, tag, a, b, c, d] = words.as_slice() else {

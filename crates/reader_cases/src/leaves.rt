@@ -1,10 +1,10 @@
-// What each leaf answers to a case.
+//! What each leaf answers to a case.
 use crate::case::Case;
 use crate::said::Said;
 use crate::{blocks, lines, tables};
-use leb128::Cause;
-use strtab::StrTable;
-use types::{Address, FileIndex, StrOffset, Text};
+use gsym_leb128::Cause;
+use gsym_strtab::StrTable;
+use gsym_types::{Address, FileIndex, StrOffset, Text};
 
 impl From<Cause> for Said {
     fn from(cause: Cause) -> Said {
@@ -53,34 +53,51 @@ fn low32(x: u64) -> u32 {
     (x & 0xffff_ffff) as u32
 }
 
+// The quotient as a special opcode takes it, 0 where there is none.
+fn quotient(a: u8, divisor: i64) -> i64 {
+    if divisor == 0 {
+        return 0;
+    }
+    (a as i64) / divisor
+}
+
+// The remainder beside it.
+fn remainder(a: u8, divisor: i64) -> i64 {
+    if divisor == 0 {
+        return a as i64;
+    }
+    (a as i64) % divisor
+}
+
+/// What the leaf of the case's kind answers; `NoLeaf` where no leaf is of that kind.
 pub fn answer(case: &Case) -> Said {
     let bytes = case.bytes.as_slice();
     let (p, q, r) = (case.p, case.q, case.r);
     let (place, len) = (p as usize, q as usize);
     let table = StrTable { place, size: len };
-    let (x, y) = (int64::of_bits(p), int64::of_bits(q));
+    let (x, y) = (p.cast_signed(), q.cast_signed());
     match case.kind {
-        'b' => number(reads::u8_at(bytes, place).map(|value| value as u64)),
-        'h' => number(reads::u16_at(bytes, place).map(|value| value as u64)),
-        'w' => number(reads::u32_at(bytes, place).map(|value| value as u64)),
-        'd' => number(reads::u64_at(bytes, place)),
-        'r' => Said::value(reads::left_at(bytes, place) as u64, 0),
-        'u' => reached(leb128::unsigned_at(bytes, place)),
-        's' => reached(leb128::signed_at(bytes, place).map(|(value, next)| (
-            int64::to_bits(value),
+        'b' => number(gsym_reads::u8_at(bytes, place).map(|value| value as u64)),
+        'h' => number(gsym_reads::u16_at(bytes, place).map(|value| value as u64)),
+        'w' => number(gsym_reads::u32_at(bytes, place).map(|value| value as u64)),
+        'd' => number(gsym_reads::u64_at(bytes, place)),
+        'r' => Said::value(gsym_reads::left_at(bytes, place) as u64, 0),
+        'u' => reached(gsym_leb128::unsigned_at(bytes, place)),
+        's' => reached(gsym_leb128::signed_at(bytes, place).map(|(value, next)| (
+            value.cast_unsigned(),
             next,
         ))),
-        't' => text(strtab::text_at(bytes, table, StrOffset(low32(r)))),
-        'n' => text(strtab::name_at(bytes, table, StrOffset(low32(r)))),
-        'p' => said_part(strtab::text(bytes, Text { place, len })),
-        '8' => Said::value(u64::from(strtab::is_utf8(bytes)), 0),
-        'l' => Said::value(strtab::sequence_len(low8(r)) as u64, 0),
-        '+' => Said::value(int64::to_bits(int64::wrapping_add(x, y)), 0),
-        '-' => Said::value(int64::to_bits(int64::wrapping_sub(x, y)), 0),
-        '/' => Said::value(int64::to_bits(int64::quot(low8(p), y)), 0),
-        '%' => Said::value(int64::to_bits(int64::rem(low8(p), y)), 0),
-        '6' => Said::value(int64::add_to_u64(p, y), 0),
-        '3' => Said::value(int64::add_to_u32(low32(p), y) as u64, 0),
+        't' => text(gsym_strtab::text_at(bytes, table, StrOffset(low32(r)))),
+        'n' => text(gsym_strtab::name_at(bytes, table, StrOffset(low32(r)))),
+        'p' => said_part(gsym_strtab::text(bytes, Text { place, len })),
+        '8' => Said::value(u64::from(gsym_strtab::is_utf8(bytes)), 0),
+        'l' => Said::value(gsym_strtab::sequence_len(low8(r)) as u64, 0),
+        '+' => Said::value(x.wrapping_add(y).cast_unsigned(), 0),
+        '-' => Said::value(x.wrapping_sub(y).cast_unsigned(), 0),
+        '/' => Said::value(quotient(low8(p), y).cast_unsigned(), 0),
+        '%' => Said::value(remainder(low8(p), y).cast_unsigned(), 0),
+        '6' => Said::value(p.wrapping_add_signed(y), 0),
+        '3' => Said::value(low32(p).wrapping_add(low32(q)) as u64, 0),
         'H' => lines::header(bytes),
         'o' => lines::nth_op(bytes, Address(p), q),
         'L' => lines::row(bytes, Address(p), Address(q)),

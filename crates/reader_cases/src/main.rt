@@ -1,6 +1,6 @@
-// Replays the vectors on standard input, prints each that differs, and then how many there were and how many differ.
-// A line is a case, or a remark that starts with `#`. tests/vectors/README.md says what each kind of case is and where
-// the expected answers come from.
+//! Replays the vectors on standard input, prints each that differs, and then how many there were and how many differ.
+//! A line is a case, or a remark that starts with `#`. tests/vectors/README.md says what each kind of case is and where
+//! the expected answers come from.
 #![tactic(auto)]
 
 mod blocks;

@@ -1,27 +1,29 @@
-// What a leaf answers, and how it stands on a line.
+//! What a leaf answers, and how it stands on a line.
 use std::fmt;
 
-// Numbers that an answer does not have are 0.
+/// What a leaf answers. Numbers that an answer does not have are 0.
 #[derive(Clone, Copy)]
 pub enum Said {
     Value([u64; 4]),
     Unread,
+    /// why a number doesn't read
     Short,
     Wide,
+    /// a refusal's number
     Refused(u8),
-    // what the line machine's opcode did: a row or none, with the place after it; why there is no opcode
+    /// what the line machine's opcode did: a row or none, with the place after it; why there is no opcode
     NewRow([u64; 4]),
     NoRow([u64; 4]),
     End(usize),
     Stopped,
     UsedUp,
-    // the end of an item list, in either way
+    /// the end of an item list, in either way
     NoItem,
-    // there is no leaf of this kind
+    /// there is no leaf of this kind
     NoLeaf,
 }
 
-// A tag and four numbers, in hexadecimal.
+/// A tag and four numbers, in hexadecimal.
 #[derive(Clone, Copy, PartialEq, Eq)]
 pub struct Words {
     pub tag: char,
@@ -29,10 +31,12 @@ pub struct Words {
 }
 
 impl Said {
+    /// A value of two numbers.
     pub fn value(a: u64, b: u64) -> Said {
         Said::Value([a, b, 0, 0])
     }
 
+    /// As it stands on a line.
     pub fn words(self) -> Words {
         let (tag, numbers) = match self {
             Said::Value(numbers) => ('v', numbers),

@@ -1,5 +1,5 @@
-// Whether a lookup lies in the domain of the comparison (document 01, "Domain of the comparison"), and if not, by which
-// rule. The rules are judged on what a lookup reads, so this reads a file once more, by document 01 alone.
+// Whether a lookup lies in the domain of the comparison (RULES, "Domain of the comparison"), and if not, by which
+// rule. The rules are judged on what a lookup reads, so this reads a file once more, by RULES alone.
 
 #[derive(Clone, Copy, PartialEq, Eq, Debug)]
 pub enum Rule {

@@ -20,7 +20,7 @@ fn blocks(o: &mut Out) {
         o.ask(9, 0x1000, 3, 64);
         o.ask(0, 0x1000, 2, 64);
     }
-    o.remark("outside the domain, answered by document 01: numbers that are too wide");
+    o.remark("outside the domain, answered by RULES: numbers that are too wide");
     let wide = [0xff; 10];
     for before in [vec![], vec![0], vec![0, 0]] {
         o.file(&with(&[item(1, &[before, wide.to_vec(), vec![1, 1, 1]].concat()), end()]));
@@ -81,7 +81,7 @@ fn blocks(o: &mut Out) {
 }
 
 fn limits(o: &mut Out) {
-    o.remark("13 by document 01: a node on level 65, open, unnamed, closed, below a closed one; not without inlining");
+    o.remark("13 by RULES: a node on level 65, open, unnamed, closed, below a closed one; not without inlining");
     let closed = |mut n: Node| {
         n.ranges = vec![(0x20, 1)];
         n
@@ -111,7 +111,7 @@ fn limits(o: &mut Out) {
         o.file(&with(&[good(), inline(&n), end()]));
         o.ask(0, 0x1000, 3, 0);
     }
-    o.remark("14 by document 01: one frame more than room; the room counts the first frame; 64 at most; no row needed");
+    o.remark("14 by RULES: one frame more than room; the room counts the first frame; 64 at most; no row needed");
     for frames in 1..5 {
         o.file(&with(&[good(), inline(&chain(frames, names)), end()]));
         for room in 0..4 {
@@ -135,7 +135,7 @@ fn limits(o: &mut Out) {
     }
     o.file(&with(&[inline(&chain(2, names))]));
     o.rule(14, 0x1000, 3, 1);
-    o.remark("the first met, by document 01: 14 before 13 on level 65; 12 before 14 in a node; 10 before 13 and after");
+    o.remark("the first met, by RULES: 14 before 13 on level 65; 12 before 14 in a node; 10 before 13 and after");
     o.file(&with(&[good(), inline(&chain(65, names)), end()]));
     o.rule(14, 0x1000, 3, 1);
     o.rule(14, 0x1000, 3, 63);

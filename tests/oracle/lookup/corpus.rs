@@ -1,5 +1,5 @@
 // Whole lookups on real files: every address of LLVM's answers, answered by the unchanged Rust, which is held to LLVM's
-// answers on the way. A tree with a node on level 65 is refused with 13 by document 01.
+// answers on the way. A tree with a node on level 65 is refused with 13 by RULES.
 use crate::out::{limit, refused, rust, Out, Said};
 
 const NAMES: [&str; 8] = ["cpp-gcc", "rs-calc", "deep", "c-gcc", "c-clang", "icf-merged", "far8", "tiny1"];

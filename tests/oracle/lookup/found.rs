@@ -217,7 +217,7 @@ fn plain_answer(s: &Shape, symbol: u64, size: u32, name: (u32, u64)) -> Said {
 }
 
 fn ruled(o: &mut Out) {
-    o.remark("outside the domain, answered by document 01: symbol address plus size above 2^64-1");
+    o.remark("outside the domain, answered by RULES: symbol address plus size above 2^64-1");
     let s = many(1, TOP - 5, vec![(0, data(6, MAIN, &[])), (2, data(0x40, OUTER, &[end()]))]);
     o.file(&write(&s));
     for (addr, symbol, size, name) in
@@ -227,7 +227,7 @@ fn ruled(o: &mut Out) {
             o.whole(addr, opts, 64, &plain_answer(&s, symbol, size, name));
         }
     }
-    o.remark("outside the domain, by document 01: of equal entries the last; falling tables where one entry fits");
+    o.remark("outside the domain, by RULES: of equal entries the last; falling tables where one entry fits");
     let (main, outer, leaf) = (data(9, MAIN, &[]), data(0x20, OUTER, &[]), data(0, LEAF, &[]));
     let equal = many(2, 0x1000, vec![(5, main.clone()), (5, outer.clone()), (9, outer.clone()), (9, leaf.clone())]);
     let falling = many(1, 0x1000, vec![(1, main), (9, outer), (5, leaf)]);

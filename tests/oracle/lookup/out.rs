@@ -1,11 +1,8 @@
-// What the vectors of whole lookups are made of: the Rust's answer told in places, document 01's limits, which the Rust
-// does not have, and the text, in blocks of which no line crosses the edge.
+// What the vectors of whole lookups are made of: the Rust's answer told in places, the limits of RULES, which the Rust
+// does not have, and the text.
 use oracle::gsym::facade;
 use oracle::symbolize::CodeInfo;
 use std::fmt::Write as _;
-
-// The program reads so many bytes at a time.
-pub const BLOCK: usize = 131_072;
 
 // An answer: its number; symbol, size, name (place and length), whether there is code info, directory, file, line and
 // how many records; and the records: name, directory, file, line.
@@ -20,7 +17,7 @@ pub fn refused(number: u64) -> Said {
     Said { number, answer: [0; 11], records: vec![] }
 }
 
-// The file at a place divisible by 8, as document 01's domain has it.
+// The file at a place divisible by 8, as the domain has it.
 pub fn aligned<T>(file: &[u8], f: impl FnOnce(&[u8]) -> T) -> T {
     let mut words = vec![0u64; file.len() / 8 + 1];
     let bytes = unsafe { std::slice::from_raw_parts_mut(words.as_mut_ptr().cast::<u8>(), file.len()) };
@@ -89,7 +86,7 @@ fn pass(block: &[u8], at: &mut usize, level: u32, most: &mut u32) -> Option<bool
     Some(true)
 }
 
-// The refusal that document 01's limits give and the Rust does not: 13 where a block that is read has a node on level
+// The refusal that the limits of RULES give and the Rust does not: 13 where a block that is read has a node on level
 // 65, 14 where it has more frames than room. The file is one that the Rust refuses nothing of up to there.
 pub fn limit(file: &[u8], addr: u64, opts: u64, room: u64) -> Option<u64> {
     if opts != 3 {
@@ -138,25 +135,14 @@ impl Out {
         Out { text: String::new(), now: vec![], counts: [0; 15] }
     }
 
-    // Lines that stay together; newlines up to the edge where they would cross it.
-    fn put(&mut self, lines: &str) {
-        assert!(lines.len() <= BLOCK);
-        let left = BLOCK - self.text.len() % BLOCK;
-        if left < lines.len() {
-            self.text.push_str(&"\n".repeat(left));
-        }
-        self.text.push_str(lines);
-    }
-
     pub fn remark(&mut self, text: &str) {
-        self.put(&format!("# {text}\n"));
+        writeln!(self.text, "# {text}").unwrap();
     }
 
     pub fn file(&mut self, file: &[u8]) {
-        assert!(file.len() <= 65_536);
         let hex: String = file.iter().map(|b| format!("{b:02x}")).collect();
         let hex = if hex.is_empty() { "." } else { &hex };
-        self.put(&format!("@ {hex}\n"));
+        writeln!(self.text, "@ {hex}").unwrap();
         self.now = file.to_vec();
     }
 
@@ -169,23 +155,22 @@ impl Out {
     // A case with its whole answer.
     pub fn whole(&mut self, addr: u64, opts: u64, room: u64, said: &Said) {
         self.tally(said);
-        let mut lines = format!("A {addr:x} {opts:x} {room:x} {:x}", said.number);
-        said.answer.iter().for_each(|x| write!(lines, " {x:x}").unwrap());
+        write!(self.text, "A {addr:x} {opts:x} {room:x} {:x}", said.number).unwrap();
+        said.answer.iter().for_each(|x| write!(self.text, " {x:x}").unwrap());
         for record in &said.records {
-            lines.push_str("\nR");
-            record.iter().for_each(|x| write!(lines, " {x:x}").unwrap());
+            self.text.push_str("\nR");
+            record.iter().for_each(|x| write!(self.text, " {x:x}").unwrap());
         }
-        lines.push('\n');
-        self.put(&lines);
+        self.text.push('\n');
     }
 
     // A case with the digest of its answer.
     pub fn short(&mut self, addr: u64, opts: u64, room: u64, said: &Said) {
         self.tally(said);
-        self.put(&format!("D {addr:x} {opts:x} {room:x} {:x} {:x}\n", said.number, digest(said)));
+        writeln!(self.text, "D {addr:x} {opts:x} {room:x} {:x} {:x}", said.number, digest(said)).unwrap();
     }
 
-    // What the Rust answers, which must have the number that document 01 says. Not beyond the limits.
+    // What the Rust answers, which must have the number that RULES says. Not beyond the limits.
     pub fn ask(&mut self, number: u64, addr: u64, opts: u64, room: u64) {
         assert_eq!(limit(&self.now, addr, opts, room), None, "beyond a limit at {addr:x}");
         let said = rust(&self.now, addr, opts);
@@ -193,7 +178,7 @@ impl Out {
         self.whole(addr, opts, room, &said);
     }
 
-    // A refusal by document 01 alone.
+    // A refusal by RULES alone.
     pub fn rule(&mut self, number: u64, addr: u64, opts: u64, room: u64) {
         self.whole(addr, opts, room, &refused(number));
     }

@@ -1,13 +1,11 @@
--- `gsym_block_frames` meets its contract: what `gsym::block_frames` answers, as C has it.
+-- `gsym_c::gsym_block_frames` meets its contract: it tells by numbers what `gsym::block_frames` returns.
 -- Assumes nothing.
-use Rattle.gsym_c.proofs.Told.{told-listed, told-refused}
+use Rattle.gsym_c.proofs.Told.{told_listed, told_refused}
 use Rattle.gsym_c.proofs.gsym_block_frames.Goals as goal
 
 pub returns-clause-listed : goal.returns-clause-listed
 returns-clause-listed c =
-    told-listed _ _ _ _ _ _ _ c.lay_listed.ensures c.block_frames.ensures.reads c.block_frames.ensures.listed
+    told_listed _ _ _ _ _ _ c.lay_listed.ensures _ c.block_frames.ensures.reads c.block_frames.ensures.listed
 
 pub returns-clause-refused : goal.returns-clause-refused
-returns-clause-refused c =
-    told-refused _ _ _ _ c.block_frames.new.frames _ _ c.lay_listed.ensures c.block_frames.ensures.reads
-    c.block_frames.ensures.refused
+returns-clause-refused c = λ r. told_refused _ _ _ _ _ _ c.lay_listed.ensures c.block_frames.ensures.refused r

@@ -1,0 +1,34 @@
+#!/bin/sh
+# Builds the bench's programs: `build.sh OUT [TREE]` puts line_whole, line_one, inline_whole, inline_one, lookup and stack
+# into OUT, and there the corpus' kernel file as vmlinux612.gsym. The libraries are those of this tree, which are proved
+# and built first, or of another checkout TREE, where they must have been built. Needs rustc, the sources of blazesym 0.2.6
+# (BLAZESYM_SRC, see tests/oracle/README.md), the corpus with vmlinux612.gsym.xz (GSYM_CORPUS), and xz; answers 3 and says
+# so where they are not there.
+set -eu
+cd "$(dirname "$0")/.."
+out=${1:?the folder to build in}
+tree=${2:-.}
+corpus=${GSYM_CORPUS:-../shared/corpus}
+[ -f "$corpus/vmlinux612.gsym.xz" ] || { echo "bench: no vmlinux612.gsym.xz at $corpus (set GSYM_CORPUS)"; exit 3; }
+command -v rustc >/dev/null 2>&1 || { echo "bench: no rustc here"; exit 3; }
+mkdir -p "$out"
+[ "$tree" != . ] || make libgsym.a target/libreader_c.a >"$out/rt.log" 2>&1 || { tail -n 20 "$out/rt.log"; exit 1; }
+cp "$tree/libgsym.a" "$tree/target/libreader_c.a" "$out/"
+xz -dc "$corpus/vmlinux612.gsym.xz" >"$out/vmlinux612.gsym"
+
+# the Rust as a whole module, and with run_op compiled into the one loop that calls it
+for build in whole one; do
+    flags=
+    [ $build = whole ] || flags="-C codegen-units=1 --cfg one_caller"
+    ORACLE_FLAGS=$flags sh tests/oracle/build.sh "$out/$build"
+    for kind in line inline; do
+        rustc --edition 2021 -C opt-level=3 -L "$out/$build" --extern "oracle=$out/$build/liboracle.rlib" \
+            -L "$out" -l static=reader_c -o "$out/${kind}_$build" "bench/$kind.rs"
+    done
+done
+
+# whole lookups, through the binding that Rust hosts use; the Rust as a whole module
+rustc --edition 2021 -C opt-level=3 --crate-type rlib --crate-name gsym -o "$out/libgsym.rlib" bindings/rust/src/lib.rs
+rustc --edition 2021 -C opt-level=3 -L "$out/whole" --extern "oracle=$out/whole/liboracle.rlib" -L "$out" \
+    --extern "gsym=$out/libgsym.rlib" -l static=gsym -o "$out/lookup" bench/lookup.rs
+rustc --edition 2021 -O -L "$out" -l static=reader_c -o "$out/stack" bench/stack.rs

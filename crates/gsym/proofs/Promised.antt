@@ -1,0 +1,64 @@
+-- What `lookup` promises follows from its equation with the definition, and from what it leaves of the list.
+-- Assumes nothing.
+use Rattle.std.proofs.Common.{◌≡◌, ◌∙◌, ap, sym, ℕ, ◌⊎◌, ◌&&◌, false, Ok, Err, Result, IfOk, OnErr, List, [], length, length-take, take, drop, arith}
+use Rattle.gsym_types.specs.declared.Address.{Address}
+use Rattle.gsym_types.specs.declared.Answer.{Answer}
+use Rattle.gsym_types.specs.declared.Frame.{Frame}
+use Rattle.gsym_types.specs.declared.Options.{Options}
+use Rattle.gsym_types.specs.declared.Refusal.{Refusal}
+use Rattle.gsym_resolver.specs.Lookup.{lookup_of, looked_up, plain_options}
+use Rattle.gsym_resolver.proofs.Unasked.{lookup_unasked}
+use Rattle.gsym_resolver.proofs.Calls.{call_refused, call_blocks, call_answered, call_listed, call_covers, call_below, call_count}
+use Rattle.gsym.specs.Lookups.{room_in, records_in, MeetsLookup}
+
+pub promised :
+    (file : List ℕ) (addr : Address) (o : Options) (result : Result Answer Refusal) (old new : List Frame) →
+    looked_up result (records_in result new) ≡ lookup_of file addr o (room_in old) →
+    IfOk result (λ a. drop a.count new ≡ drop a.count old) → OnErr result (new ≡ old) →
+    ((o.code_info ≡ false) ⊎ (o.inlining ≡ false) → new ≡ old) → MeetsLookup file addr o result old new
+promised file addr o (Ok a) old new e stays kept bare =
+    let room = room_in old in
+    let count : a.count ≡ length (take a.count new) = call_count file addr o room (Ok a) (take a.count new) e in
+    record {
+      refused = call_refused file addr o room (Ok a) (take a.count new) e;
+      blocks = tt;
+      answered = call_answered file addr o room (Ok a) (take a.count new) e;
+      listed = λ l. call_listed file addr o room (Ok a) (take a.count new) e (omega (arith, count));
+      covered = call_covers file addr o room (Ok a) (take a.count new) e;
+      below = call_below file addr o room (Ok a) (take a.count new) e;
+      within = omega (arith, count, length-take a.count new);
+      stays = stays;
+      kept = kept;
+      bare = bare;
+      exact = e;
+    }
+promised file addr o (Err r) old new e stays kept bare =
+    let room = room_in old in
+    record {
+      refused = call_refused file addr o room (Err r) [] e;
+      blocks = call_blocks file addr o room (Err r) [] e;
+      answered = tt;
+      listed = tt;
+      covered = tt;
+      below = tt;
+      within = tt;
+      stays = tt;
+      kept = kept;
+      bare = bare;
+      exact = e;
+    }
+
+-- a lookup without both options has no records, whatever the room
+module _ (file : List ℕ) (addr : Address) (o : Options) (result : Result Answer Refusal) (frames : List Frame)
+    (e : looked_up result [] ≡ lookup_of file addr (plain_options o.code_info) 0) where
+  pub plain_exact :
+      (o.code_info && o.inlining) ≡ false → looked_up result (records_in result frames) ≡ lookup_of file addr o (room_in frames)
+  plain_exact h = go result e ∙ sym (lookup_unasked file addr o.code_info o.inlining (room_in frames) h)
+    where
+      go :
+          (x : Result Answer Refusal) → looked_up x [] ≡ lookup_of file addr (plain_options o.code_info) 0 →
+          looked_up x (records_in x frames) ≡ lookup_of file addr (plain_options o.code_info) 0
+      go (Ok a) e =
+          let n : a.count ≡ 0 = call_count file addr (plain_options o.code_info) 0 (Ok a) [] e in
+          ap (looked_up (Ok a)) (ap (λ n. take n frames) n) ∙ e
+      go (Err r) e = e

@@ -1,0 +1,32 @@
+-- `gsym::lookups::lookup` meets its contract: what follows from the equation with the definition.
+-- Assumes nothing.
+use Rattle.gsym.proofs.Promised.{promised}
+use Rattle.gsym.proofs.lookups.lookup.Goals as goal
+
+pub returns-clause-refused : goal.returns-clause-refused
+returns-clause-refused c =
+    let e = c.lookup_by.ensures in (promised _ _ _ _ _ _ e.exact e.stays e.kept e.bare).refused
+
+pub returns-clause-blocks : goal.returns-clause-blocks
+returns-clause-blocks c =
+    let e = c.lookup_by.ensures in (promised _ _ _ _ _ _ e.exact e.stays e.kept e.bare).blocks
+
+pub returns-clause-answered : goal.returns-clause-answered
+returns-clause-answered c =
+    let e = c.lookup_by.ensures in (promised _ _ _ _ _ _ e.exact e.stays e.kept e.bare).answered
+
+pub returns-clause-listed : goal.returns-clause-listed
+returns-clause-listed c =
+    let e = c.lookup_by.ensures in (promised _ _ _ _ _ _ e.exact e.stays e.kept e.bare).listed
+
+pub returns-clause-covered : goal.returns-clause-covered
+returns-clause-covered c =
+    let e = c.lookup_by.ensures in (promised _ _ _ _ _ _ e.exact e.stays e.kept e.bare).covered
+
+pub returns-clause-below : goal.returns-clause-below
+returns-clause-below c =
+    let e = c.lookup_by.ensures in (promised _ _ _ _ _ _ e.exact e.stays e.kept e.bare).below
+
+pub returns-clause-within : goal.returns-clause-within
+returns-clause-within c =
+    let e = c.lookup_by.ensures in (promised _ _ _ _ _ _ e.exact e.stays e.kept e.bare).within

@@ -1,0 +1,119 @@
+//! The symbol of an address, with all that is asked for, into a list that the caller lends (RULES, from "Header and
+//! tables" to "Putting the answer together").
+ghost use Rattle.std.specs.Prelude.{◌≡◌, ◌↔◌, ◌≤◌, ◌<◌, ◌⊎◌, false, true, min, length, drop, IfOk, IfErr, OnErr, IsErrOf};
+ghost use Rattle.gsym_types.specs.declared.Refusal.{Refusal};
+ghost use Rattle.gsym_types.specs.Refusal.{number_of};
+ghost use Rattle.gsym_parser.specs.Entries.{covered_by};
+ghost use Rattle.gsym_resolver.specs.Lookup.{lookup_of, looked_up, all_options};
+ghost use Rattle.gsym_resolver.specs.Met.{Met};
+ghost use Rattle.gsym_resolver.specs.Answered.{Answered};
+ghost use Rattle.gsym_resolver.specs.Blocks.{RefusedByBlock, Listed};
+ghost use Rattle.gsym.specs.Lookups.{room_in, records_in, with_records, has_too_many};
+
+use arrayvec::ArrayVec;
+use gsym_types::{Address, Answer, Frame, MAX_FRAMES, Options, Refusal};
+
+/// The symbol of an address with all that is asked for. Each call inlined there but the outermost, which gives the
+/// symbol its name, becomes a record, written over the first ones of `frames`. There is room for as many frames as the
+/// list has places, and for 64 at most; they count the one that becomes no record. Records past the count stay as they
+/// are. Refused with the condition of RULES ("Refusal numbers") that is met first, 1 to 14; a refusal changes no record.
+/// Without both options the list isn't touched (RULES, "Calls").
+pub fn lookup(
+    file: &[u8],
+    addr: Address,
+    options: Options,
+    frames: &mut [Frame],
+) -> Result<Answer, Refusal>
+    // Refused exactly where its condition is met, of several the first in the order of RULES.
+    ensures refused { (r : Refusal) → IsErrOf result r
+        ↔ Met file.now addr options (room_in frames.old) r }
+    // A refusal from 10 on is the first fault of one of the entry's blocks, the first that doesn't list none.
+    ensures blocks { IfErr result (λ r. 10 ≤ number_of r
+        → RefusedByBlock file.now addr options (room_in frames.old) r) }
+    // Else name, position, size and records are what the data of the entry say that the address lands on.
+    ensures answered { IfOk result (λ a.
+        Answered file.now addr options (room_in frames.old) (with_records a frames.new)) }
+    // Where there are records, they are those of the first inline block of the entry that lists anything.
+    ensures listed { IfOk result (λ a. 0 < a.count
+        → Listed file.now addr options (room_in frames.old) (with_records a frames.new)) }
+    // The symbol covers the address, and isn't above it.
+    ensures covered { IfOk result (λ a. covered_by addr a.addr a.size ≡ true) }
+    ensures below { IfOk result (λ a. a.addr.0 ≤ addr.0) }
+    // What is written lies in the list, and nothing else changes.
+    ensures within { IfOk result (λ a. a.count ≤ length frames.new) }
+    ensures stays { IfOk result (λ a. drop a.count frames.new ≡ drop a.count frames.old) }
+    ensures kept { OnErr result (frames.new ≡ frames.old) }
+    ensures bare { (options.code_info ≡ false) ⊎ (options.inlining ≡ false)
+        → frames.new ≡ frames.old }
+    ensures exact { looked_up result (records_in result frames.new)
+        ≡ lookup_of file.now addr options (room_in frames.old) }
+{
+    lookup_by(file, addr, options, frames)
+}
+
+// `lookup`, held to the definition alone.
+#[inline(always)]
+fn lookup_by(
+    file: &[u8],
+    addr: Address,
+    options: Options,
+    frames: &mut [Frame],
+) -> Result<Answer, Refusal>
+    ensures stays { IfOk result (λ a. drop a.count frames.new ≡ drop a.count frames.old) }
+    ensures kept { OnErr result (frames.new ≡ frames.old) }
+    ensures bare { (options.code_info ≡ false) ⊎ (options.inlining ≡ false)
+        → frames.new ≡ frames.old }
+    ensures exact { looked_up result (records_in result frames.new)
+        ≡ lookup_of file.now addr options (room_in frames.old) }
+{
+    if options.code_info && options.inlining {
+        lookup_inlined(file, addr, frames)
+    } else {
+        gsym_resolver::lookup_plain(file, addr, options.code_info)
+    }
+}
+
+// How many frames a lookup has room for at first: most addresses have fewer.
+const FIRST_FRAMES: usize = 16;
+
+// A lookup with position and inlined calls. Most addresses have few frames, and a large list costs more to fill than they
+// cost to read; more room changes nothing but the refusal for too many frames.
+fn lookup_inlined(file: &[u8], addr: Address, frames: &mut [Frame]) -> Result<Answer, Refusal>
+    ensures stays { IfOk result (λ a. drop a.count frames.new ≡ drop a.count frames.old) }
+    ensures kept { OnErr result (frames.new ≡ frames.old) }
+    ensures length { length frames.new ≡ length frames.old }
+    ensures exact { looked_up result (records_in result frames.new)
+        ≡ lookup_of file.now addr all_options (room_in frames.old) }
+{
+    let few = lookup_within::<FIRST_FRAMES>(file, addr, frames);
+    if !has_too_many(&few) {
+        return few;
+    }
+    lookup_within::<MAX_FRAMES>(file, addr, frames)
+}
+
+// Whether there were more frames than there was room for.
+fn has_too_many(answer: &Result<Answer, Refusal>) -> bool
+    ensures { result ≡ has_too_many answer.now }
+{
+    matches!(answer, Err(Refusal::TooManyFrames))
+}
+
+// A lookup with position and inlined calls, with room for N frames at most: 16 first, then 64.
+fn lookup_within<const N: usize>(
+    file: &[u8],
+    addr: Address,
+    frames: &mut [Frame],
+) -> Result<Answer, Refusal>
+    requires { N ≤ 64 }
+    ensures stays { IfOk result (λ a. drop a.count frames.new ≡ drop a.count frames.old) }
+    ensures kept { OnErr result (frames.new ≡ frames.old) }
+    ensures length { length frames.new ≡ length frames.old }
+    ensures exact { looked_up result (records_in result frames.new)
+        ≡ lookup_of file.now addr all_options (min 64 (min N (length frames.old))) }
+{
+    let mut records: ArrayVec<Frame, N> = ArrayVec::new();
+    let answer = gsym_resolver::lookup_in(file, addr, Options::ALL, frames.len(), &mut records)?;
+    frames[..records.len()].copy_from_slice(records.as_slice());
+    Ok(answer)
+}

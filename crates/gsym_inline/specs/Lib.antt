@@ -1,0 +1,16 @@
+pub mod Limits
+pub mod Tree
+pub mod Frames
+pub mod Paths
+pub mod Head
+pub mod Judge
+pub mod Skip
+pub mod Walk
+pub mod Block
+pub mod Full
+pub mod Reads
+pub mod ListsFrames
+pub mod Steps
+pub mod FirstFault
+pub mod Examples
+pub mod FaultExamples

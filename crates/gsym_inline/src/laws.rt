@@ -1,0 +1,47 @@
+//! Laws of the definitions that contracts name (RULES, "Inline tree"). Nothing runs here: each function's clauses are
+//! about the definitions alone.
+ghost use Rattle.std.specs.Prelude.{◌≡◌, ◌↔◌, ℕ, List, IsOk};
+ghost use Rattle.gsym_types.specs.declared.InlineFrame.{InlineFrame};
+ghost use Rattle.gsym_types.specs.declared.Refusal.{Refusal};
+ghost use Rattle.gsym_inline.specs.Block.{block_of};
+ghost use Rattle.gsym_inline.specs.Reads.{Reads};
+ghost use Rattle.gsym_inline.specs.ListsFrames.{ListsFrames};
+ghost use Rattle.gsym_inline.specs.Steps.{Step, steps_of, InFile, InPlace};
+ghost use Rattle.gsym_inline.specs.FirstFault.{NoFault, FirstFault};
+ghost use Rattle.gsym_inline.specs.FaultExamples.{FaultNumbers};
+ghost use Rattle.gsym_inline.specs.Examples.{TreeExamples};
+
+/// The steps of a block are those of its reading (RULES, "Inline tree", "Order inside a node"): its items stand in the
+/// bytes one after another from the start on, what is judged comes directly after its item, and the block reads exactly
+/// if no step is refused.
+pub fn steps_in_order()
+    ensures in_file { (symbol addr : ℕ) (bytes : List ℕ) → InFile bytes 0 (steps_of symbol addr bytes) }
+    ensures in_place { (symbol addr : ℕ) (bytes : List ℕ) (last : Step)
+        → InPlace last (steps_of symbol addr bytes) }
+    ensures reads { (symbol addr room : ℕ) (bytes : List ℕ)
+        → Reads symbol addr room bytes ↔ NoFault room (steps_of symbol addr bytes) }
+{}
+
+/// A block reads exactly if its tree is there in full, no judged node has a start or an end above 2^64-1 or a call file
+/// above 4,294,967,295, no node stands on level 65, and there are no more frames than room (RULES, "Inline tree").
+pub fn reads_iff()
+    ensures { (symbol addr room : ℕ) (bytes : List ℕ)
+        → IsOk (block_of symbol addr room bytes) ↔ Reads symbol addr room bytes }
+{}
+
+/// Neither a second list of frames nor a second refusal fits a block.
+pub fn one_answer()
+    ensures frames { (symbol addr room : ℕ) (bytes : List ℕ) (fs gs : List InlineFrame)
+        → ListsFrames symbol addr room bytes fs → ListsFrames symbol addr room bytes gs → fs ≡ gs }
+    ensures refusal { (symbol addr room : ℕ) (bytes : List ℕ) (r q : Refusal)
+        → FirstFault room (steps_of symbol addr bytes) r
+        → FirstFault room (steps_of symbol addr bytes) q → r ≡ q }
+{}
+
+/// 25 blocks that don't read, written out, have the refusals that are written beside them, and trees whose bytes are
+/// written out have the frames that are.
+#[tactic(auto, using(crate::proofs::FaultNumbers::fault_numbers, crate::proofs::FaultNumbers::tree_examples))]
+pub fn fault_numbers()
+    ensures faults { FaultNumbers }
+    ensures trees { TreeExamples }
+{}

@@ -1,0 +1,8 @@
+mod Digits
+mod Ends
+mod Turn
+mod Plain
+mod Signs
+pub mod Taken
+pub mod Bytes
+pub mod Places

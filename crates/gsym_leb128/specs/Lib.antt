@@ -1,0 +1,3 @@
+pub mod Leb
+pub mod Answers
+pub mod Examples

@@ -1,0 +1,7 @@
+mod Factor
+mod Numbers
+mod Quickly
+pub mod Progress
+pub mod Runs
+pub mod Choice
+pub mod Reach

@@ -1,0 +1,6 @@
+pub mod Machine
+pub mod Rows
+pub mod RowFor
+pub mod Quick
+pub mod Reaches
+pub mod Examples

@@ -1,0 +1,88 @@
+//! What each opcode does to a row (RULES, "Line table"). An operand that doesn't read stops the program.
+ghost use Rattle.std.specs.Prelude.{◌≡◌};
+ghost use Rattle.gsym_linetab.specs.Machine.{set_file, advance_pc, advance_line, line_after, range_of, special_of};
+
+use super::{Ending, LineState, LineTableHeader, LineTableRow};
+use gsym_types::{Address, FileIndex, LineNumber};
+
+// Opcode 1, whose operand is at `at`: the file becomes that number modulo 2^32.
+#[tactic(auto, unfolding(crate::specs::Machine::set_file))]
+pub(crate) fn set_file(ops: &[u8], row: LineTableRow, at: usize) -> Result<LineState, Ending>
+    ensures { result ≡ set_file ops.now row at }
+{
+    let (value, next) = gsym_leb128::unsigned_at(ops, at)?;
+    let file = (value % 0x1_0000_0000) as u32;
+    let row = LineTableRow {
+        file_idx: FileIndex(file),
+        ..row
+    };
+    Ok(LineState { row, at: next })
+}
+
+// Opcode 2: addresses wrap modulo 2^64.
+#[tactic(auto, unfolding(crate::specs::Machine::advance_pc))]
+pub(crate) fn advance_pc(ops: &[u8], row: LineTableRow, at: usize) -> Result<LineState, Ending>
+    ensures { result ≡ advance_pc ops.now row at }
+{
+    let (value, next) = gsym_leb128::unsigned_at(ops, at)?;
+    let to = row.addr.0.wrapping_add(value);
+    let row = LineTableRow {
+        addr: Address(to),
+        ..row
+    };
+    Ok(LineState { row, at: next })
+}
+
+// Opcode 3: lines wrap modulo 2^32.
+#[tactic(auto, unfolding(crate::specs::Machine::advance_line))]
+pub(crate) fn advance_line(ops: &[u8], row: LineTableRow, at: usize) -> Result<LineState, Ending>
+    ensures { result ≡ advance_line ops.now row at }
+{
+    let (change, next) = gsym_leb128::signed_at(ops, at)?;
+    let file_line = line_after(row.file_line, change);
+    let row = LineTableRow { file_line, ..row };
+    Ok(LineState { row, at: next })
+}
+
+// The line moved by a signed change, modulo 2^32.
+fn line_after(line: LineNumber, change: i64) -> LineNumber
+    ensures { result ≡ line_after line change }
+{
+    let low = (change.cast_unsigned() % 0x1_0000_0000) as u32;
+    LineNumber(line.0.wrapping_add(low))
+}
+
+// How many line changes the special opcodes tell apart: max - min + 1, as a signed 64-bit number.
+#[tactic(auto, using(crate::proofs::Numbers::range_is), unfolding(crate::specs::Machine::range_of))]
+pub(crate) fn range_of(header: LineTableHeader) -> i64
+    ensures { result ≡ range_of header }
+{
+    header
+        .max_delta
+        .wrapping_sub(header.min_delta)
+        .wrapping_add(1)
+}
+
+// A special opcode, `a` above the first one. A range of 0 stops the program; a negative one moves the address back.
+#[tactic(auto, unfolding(crate::specs::Machine::special_of))]
+pub(crate) fn special(
+    header: LineTableHeader,
+    row: LineTableRow,
+    a: u8,
+    next: usize,
+) -> Result<LineState, Ending>
+    ensures { result ≡ special_of header row a next }
+{
+    let range = range_of(header);
+    if range == 0 {
+        return Err(Ending::Stopped);
+    }
+    let a = a as i64;
+    let delta = header.min_delta.wrapping_add(a % range);
+    let row = LineTableRow {
+        addr: Address(row.addr.0.wrapping_add_signed(a / range)),
+        file_line: line_after(row.file_line, delta),
+        ..row
+    };
+    Ok(LineState { row, at: next })
+}

@@ -1,0 +1,185 @@
+//! The row of an address at a range from 1 to 255, row by row. Between two rows the state is the last row made, since no
+//! opcode moves the address without a row: so the row before is at hand, and nothing is copied for it. A special opcode
+//! multiplies by a factor where `run_op` divides. What else stands in a program, and its end, is left to `row_by_op`,
+//! which goes on from the last row.
+ghost use Rattle.std.specs.Prelude.{◌≡◌, ◌<◌, ◌≤◌, length, slice_index, Some, IfSome};
+ghost use Rattle.gsym_linetab.specs.Quick.{IsPlanFor, LeadsToMaker, MakesNoRow, MakesNextRow, row_before};
+ghost use Rattle.gsym_linetab.specs.Rows.{row_for};
+
+use super::{
+    ADVANCE_LINE, ADVANCE_PC, END_SEQUENCE, FIRST_SPECIAL, LineState, LineTableHeader,
+    LineTableRow, SET_FILE, row_by_op,
+};
+use crate::opcode::{advance_line, advance_pc, set_file};
+use gsym_types::{Address, LineNumber};
+
+// What special opcodes go by in one program: the range, the factor that divides a byte by it, and min modulo 2^32. The
+// functions below that take a plan take the header that it is of for their contracts, in which each names it. Nothing
+// prints or compares a plan.
+#[derive(Clone, Copy)]
+pub(crate) struct Plan {
+    pub range: u64,
+    pub factor: u64,
+    pub low: u64,
+}
+
+// The state at the first opcode from `start` on that may make a row, with the files set and the lines changed before
+// it. None: the program ends before it makes a row.
+#[tactic(auto, using(crate::proofs::Quickly::settings))]
+pub(crate) fn first_maker(ops: &[u8], start: LineState) -> Option<LineState>
+    ensures { LeadsToMaker ops.now start result }
+{
+    let mut state = start;
+    // A turn takes an opcode with its operand: it is no element of a slice. By `match`: with `ok()` and `?` the answers of
+    // the loop, which name the arms, leave goals open.
+    'settings: while state.at < ops.len() {
+        let next = state.at + 1;
+        match ops[state.at] {
+            END_SEQUENCE => return None,
+            SET_FILE => match set_file(ops, state.row, next) {
+                Ok(set) => state = set,
+                Err(_) => return None,
+            },
+            ADVANCE_LINE => match advance_line(ops, state.row, next) {
+                Ok(moved) => state = moved,
+                Err(_) => return None,
+            },
+            _ => return Some(state),
+        }
+    }
+    None
+}
+
+// The row of the special opcode at the state's place. The quotient is a product and a shift, exact for a byte and the
+// plan's factor.
+fn special_row(header: LineTableHeader, ops: &[u8], state: LineState, plan: Plan) -> LineState
+    requires there { state.at < length ops.now }
+    requires special { 4 ≤ slice_index ops.now state.at }
+    requires planned { IsPlanFor header plan }
+    ensures { MakesNextRow header ops.now state (Some result) }
+{
+    let at = state.at;
+    let row = state.row;
+    let a = (ops[at] - FIRST_SPECIAL) as u64;
+    let steps = a * plan.factor / 65536;
+    let over = a - steps * plan.range;
+    let to = row.addr.0.wrapping_add(steps);
+    let sum = (row.file_line.0 as u64) + plan.low + over;
+    let on = (sum % 0x1_0000_0000) as u32;
+    let row = LineTableRow {
+        addr: Address(to),
+        file_line: LineNumber(on),
+        ..row
+    };
+    LineState { row, at: at + 1 }
+}
+
+// The state after opcode 1, if that stands at its place, where its callers have seen a byte. None: the operand doesn't
+// read.
+#[tactic(auto, using(crate::proofs::Quickly::file_moves))]
+fn file_to(ops: &[u8], state: LineState) -> Option<LineState>
+    requires { state.at < length ops.now }
+    ensures { IfSome result (MakesNoRow ops.now state) }
+{
+    if ops[state.at] != SET_FILE {
+        return Some(state);
+    }
+    // By `match`: with `ok()` the compiler keeps a copy of the state, 42 instructions a line table more.
+    match set_file(ops, state.row, state.at + 1) {
+        Ok(set) => Some(set),
+        Err(_) => None,
+    }
+}
+
+// The state after opcode 3, if that stands at its place, where its callers have seen a byte. None: the operand doesn't
+// read.
+#[tactic(auto, using(crate::proofs::Quickly::line_moves))]
+fn line_to(ops: &[u8], state: LineState) -> Option<LineState>
+    requires { state.at < length ops.now }
+    ensures { IfSome result (MakesNoRow ops.now state) }
+{
+    if ops[state.at] != ADVANCE_LINE {
+        return Some(state);
+    }
+    advance_line(ops, state.row, state.at + 1).ok()
+}
+
+// The row of opcode 2, if that stands at the state's place. None: nothing is said.
+fn pc_row(header: LineTableHeader, ops: &[u8], state: LineState) -> Option<LineState>
+    ensures { MakesNextRow header ops.now state result }
+{
+    if ops.len() <= state.at || ops[state.at] != ADVANCE_PC {
+        return None;
+    }
+    // By `match`: with `ok()` a goal is left open.
+    match advance_pc(ops, state.row, state.at + 1) {
+        Ok(made) => Some(made),
+        Err(_) => None,
+    }
+}
+
+// The next row, where the file is set already: a special opcode, or a change of the line and opcode 2.
+fn near_row(header: LineTableHeader, ops: &[u8], state: LineState, plan: Plan) -> Option<LineState>
+    requires { IsPlanFor header plan }
+    ensures { MakesNextRow header ops.now state result }
+{
+    if ops.len() <= state.at {
+        return None;
+    }
+    if FIRST_SPECIAL <= ops[state.at] {
+        return Some(special_row(header, ops, state, plan));
+    }
+    let moved = line_to(ops, state)?;
+    pc_row(header, ops, moved)
+}
+
+// The next row. Most are of a special opcode alone, so that is asked for first.
+fn next_row(header: LineTableHeader, ops: &[u8], state: LineState, plan: Plan) -> Option<LineState>
+    requires { IsPlanFor header plan }
+    ensures { MakesNextRow header ops.now state result }
+{
+    if ops.len() <= state.at {
+        return None;
+    }
+    if FIRST_SPECIAL <= ops[state.at] {
+        return Some(special_row(header, ops, state, plan));
+    }
+    let set = file_to(ops, state)?;
+    near_row(header, ops, set, plan)
+}
+
+// The last row made, where that is the state: none at the place where the program starts.
+fn row_before(start: usize, state: LineState) -> Option<LineTableRow>
+    ensures { result ≡ row_before start state }
+{
+    if start < state.at {
+        return Some(state.row);
+    }
+    None
+}
+
+// The row of `addr` in the program from `start` on, as `row_by_op` has it.
+#[tactic(auto, using(crate::proofs::Quickly::quickly))]
+pub(crate) fn quick_rows(
+    header: LineTableHeader,
+    ops: &[u8],
+    start: LineState,
+    addr: Address,
+    plan: Plan,
+) -> Option<LineTableRow>
+    requires { IsPlanFor header plan }
+    ensures { result ≡ row_for header ops.now start addr }
+{
+    let mut state = start;
+    // A turn takes a row, of one opcode or of several: it is no element of a slice.
+    'rows: loop {
+        let Some(made) = next_row(header, ops, state, plan) else {
+            let before = row_before(start.at, state);
+            return row_by_op(header, ops, before, state, addr);
+        };
+        if addr.0 < made.row.addr.0 {
+            return row_before(start.at, state);
+        }
+        state = made;
+    }
+}

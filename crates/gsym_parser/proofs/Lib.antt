@@ -1,0 +1,13 @@
+mod Halving
+mod Turns
+pub mod Inside
+pub mod Opened
+pub mod Unopened
+pub mod Table
+pub mod Choice
+pub mod Lands
+pub mod Symbols
+pub mod Lists
+mod Finding
+pub mod Places
+pub mod Said

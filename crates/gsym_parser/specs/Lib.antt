@@ -1,0 +1,10 @@
+pub mod Within
+pub mod View
+pub mod Numbers
+pub mod Header
+pub mod Unopened
+pub mod Search
+pub mod Entries
+pub mod Texts
+pub mod Items
+pub mod Examples

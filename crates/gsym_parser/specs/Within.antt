@@ -1,0 +1,15 @@
+-- Where the tables of an opened file stand, in file order, and that each ends within the file (RULES, "Header and
+-- tables").
+-- Assumes nothing.
+use Rattle.std.specs.Prelude.{◌≡◌, ℕ, ◌+◌, ◌*◌, ◌≤◌, List, length}
+use Rattle.std.specs.Int.{next_multiple_of}
+use Rattle.gsym_parser.specs.declared.Tables.{Tables}
+
+pub record Within (file : List ℕ) (t : Tables) : Type 0 where
+  pub addrs : t.addrs ≡ 48
+  pub offsets : t.offsets ≡ next_multiple_of (t.addrs + t.count * t.offset_size) 4
+  pub files : t.files ≡ t.offsets + t.count * 4 + 4
+  pub addrs-end : t.addrs + t.count * t.offset_size ≤ length file
+  pub offsets-end : t.offsets + t.count * 4 ≤ length file
+  pub files-end : t.files + t.file_count * 8 ≤ length file
+  pub strings-end : t.strings.place + t.strings.size ≤ length file

@@ -1,0 +1,86 @@
+//! The items of an address data list, one after another (RULES, "Address data list").
+ghost use Rattle.std.specs.Prelude.{◌≡◌};
+ghost use Rattle.gsym_parser.specs.Items.{items_of, items_left};
+
+/// An item: its type, and its bytes.
+#[derive(Clone, Copy, Debug, PartialEq, Eq, Hash)]
+pub struct Item<'a> {
+    pub kind: u32,
+    pub bytes: &'a [u8],
+}
+
+/// The items that are still to come, in file order. The list ends at type 0, whatever follows it, and at an item that
+/// doesn't fit; neither is a refusal.
+#[derive(Clone, Copy, Debug, PartialEq, Eq, Hash)]
+pub struct Items<'a> {
+    pub rest: &'a [u8],
+}
+
+/// The items that bytes begin with (RULES, "Address data list").
+pub fn parse_address_data(bytes: &[u8]) -> Items<'_>
+    ensures items { items_left result ≡ items_of bytes.now }
+    ensures rest { result.rest.now ≡ bytes.now }
+{
+    Items { rest: bytes }
+}
+
+impl<'a> Items<'a> {
+    ghost use Rattle.std.specs.Prelude.{◌≡◌, [], true, option_map};
+    ghost use Rattle.gsym_parser.specs.Items.{item_view, item_front, ends_at, closed_of, items_left};
+
+    /// Whether the list has ended, and at type 0: false where items are still to come, and where it ended at an item
+    /// that doesn't fit (RULES, "Address data list").
+    #[tactic(auto, using(crate::proofs::Lists::closed_ended, crate::proofs::Lists::ended_closed), unfolding(crate::specs::Items::ends_at, gsym_reads::specs::Fronts::u32_front))]
+    pub fn is_closed(&self) -> bool
+        ensures ended { result ≡ true → items_left self.now ≡ [] }
+        ensures closed { items_left self.now ≡ [] → result ≡ closed_of self.now.rest.now }
+        ensures exact { result ≡ ends_at self.now.rest.now }
+    {
+        let Some((kind, _)) = self.rest.split_first_chunk::<4>() else {
+            return false;
+        };
+        u32::from_le_bytes(*kind) == 0
+    }
+
+    // The next item, and the bytes after it.
+    #[inline]
+    #[tactic(auto, unfolding(crate::specs::Items::item_front, crate::specs::Items::sized_item, gsym_reads::specs::Fronts::u32_front))]
+    fn split(&self) -> Option<(Item<'a>, &'a [u8])>
+        ensures { option_map (λ p. (item_view p.0, p.1.now)) result ≡ item_front self.now.rest.now }
+    {
+        let (kind, rest) = self.rest.split_first_chunk::<4>()?;
+        let kind = u32::from_le_bytes(*kind);
+        if kind == 0 {
+            return None;
+        }
+        let (len, rest) = rest.split_first_chunk::<4>()?;
+        let len = u32::from_le_bytes(*len) as usize;
+        if rest.len() < len {
+            return None;
+        }
+        let (bytes, rest) = rest.split_at(len);
+        Some((Item { kind, bytes }, rest))
+    }
+}
+
+impl<'a> Iterator for Items<'a> {
+    ghost use Rattle.std.specs.Prelude.{◌≡◌};
+    ghost use Rattle.std.specs.Iterator.{YieldsFirstBy, item_count};
+    ghost use Rattle.gsym_parser.specs.Items.{items_left, item_view, closed_of};
+
+    type Item = Item<'a>;
+
+    ghost next_gives = { λ old item new.
+        YieldsFirstBy item_view items_left old item new
+        × (closed_of new.rest.now ≡ closed_of old.rest.now) };
+
+    ghost remaining = { item_count items_left };
+
+    /// The next item. Where there is none the list has ended, and stays as it is: `is_closed` says how it ended.
+    #[tactic(auto, using(crate::proofs::Lists::items_step, crate::proofs::Lists::closed_step))]
+    fn next(&mut self) -> Option<Item<'a>> {
+        let (item, rest) = self.split()?;
+        self.rest = rest;
+        Some(item)
+    }
+}

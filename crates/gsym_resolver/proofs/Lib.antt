@@ -1,0 +1,15 @@
+pub mod Firsts
+pub mod Blocks
+pub mod Items
+pub mod Shared
+pub mod Joined
+pub mod Answers
+pub mod Lookups
+pub mod Unasked
+pub mod LaterFrames
+pub mod Records
+pub mod Rooms
+pub mod Numbers
+pub mod Listings
+pub mod Texts
+pub mod Calls

@@ -1,0 +1,11 @@
+pub mod Known
+pub mod Lookup
+pub mod EntryData
+pub mod SharedTables
+pub mod EntryAnswer
+pub mod WithPlaces
+pub mod Met
+pub mod Answered
+pub mod Blocks
+pub mod Examples
+pub mod WholeLookups

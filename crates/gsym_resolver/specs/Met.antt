@@ -1,0 +1,163 @@
+-- When each refusal of a lookup is given (RULES, "Refusal numbers" and "Address data list"): its condition, which is the
+-- first met in the order of RULES.
+-- Assumes nothing.
+use Rattle.std.specs.Prelude.{Some, None, Ok, Err, Option, ℕ, ◌≤◌, true, false, List, [], ◌∷◌, ◌++◌, ◌≡◌, length, slice_get}
+use Rattle.std.specs.List.{All}
+use Rattle.gsym_types.specs.declared.Address.{Address}
+use Rattle.gsym_types.specs.declared.FileIndex.{FileIndex}
+use Rattle.gsym_types.specs.declared.InlineFrame.{InlineFrame}
+use Rattle.gsym_types.specs.declared.Options.{Options}
+use Rattle.gsym_types.specs.declared.Refusal.{Refusal}
+use Rattle.gsym_types.specs.declared.Refusal.TheVariants as refused
+use Rattle.gsym_leb128.specs.declared.Cause.{Cause}
+use Rattle.gsym_linetab.specs.Machine.{header_of}
+use Rattle.gsym_linetab.specs.Rows.{line_row}
+use Rattle.gsym_linetab.specs.declared.LineTableRow.{LineTableRow}
+use Rattle.gsym_inline.specs.ListsFrames.{ListsFrames}
+use Rattle.gsym_inline.specs.Steps.{steps_of}
+use Rattle.gsym_inline.specs.FirstFault.{FirstFault}
+use Rattle.gsym_parser.specs.declared.entries.FileInfo.{FileInfo}
+use Rattle.gsym_parser.specs.View.{View}
+use Rattle.gsym_parser.specs.Header.{opened_of}
+use Rattle.gsym_parser.specs.Unopened.{Unopened}
+use Rattle.gsym_parser.specs.Search.{find_of, Nowhere}
+use Rattle.gsym_parser.specs.Entries.{symbol_at, covered_by}
+use Rattle.gsym_parser.specs.Items.{ItemData}
+use Rattle.gsym_resolver.specs.EntryData.{EntryData, data_at, Entered}
+use Rattle.gsym_resolver.specs.SharedTables.{SharedTables, shared_tables, reads_text, reads_name}
+use Rattle.gsym_resolver.specs.Known.{Question, question}
+
+-- the first of a list of which P holds: of each before it N does
+pub record First {A : Type 0} (N P : A → Type 0) (xs : List A) : Type 0 where
+  pub before : List A
+  pub this : A
+  pub after : List A
+  pub split : xs ≡ before ++ this ∷ after
+  pub each : All N before
+  pub holds : P this
+
+-- ---- what the items give
+
+-- an item gives no row: it is no line table (type 1), or its header reads and no row is found
+abbrev pub GivesNoRow : Question → ItemData → Type 0
+GivesNoRow q item = item.kind ≡ 1 → line_row item.bytes q.symbol q.addr ≡ Ok None
+
+-- it is a line table with a row
+abbrev pub GivesRow : Question → LineTableRow → ItemData → Type 0
+GivesRow q row item = (item.kind ≡ 1) × (line_row item.bytes q.symbol q.addr ≡ Ok (Some row))
+
+-- an item gives no frames: it is no inline block (type 2), or one that reads and lists none
+abbrev pub GivesNoFrames : Question → ItemData → Type 0
+GivesNoFrames q item = item.kind ≡ 2 → ListsFrames q.symbol.0 q.addr.0 q.room item.bytes []
+
+-- it is an inline block that lists these
+abbrev pub GivesFrames : Question → List InlineFrame → ItemData → Type 0
+GivesFrames q fs item = (item.kind ≡ 2) × ListsFrames q.symbol.0 q.addr.0 q.room item.bytes fs
+
+-- the row after items: that of the first line table with one
+pub data RowIs (q : Question) (items : List ItemData) : Option LineTableRow → Type 0 where
+  no_row : All (GivesNoRow q) items → RowIs q items None
+  row : {r : LineTableRow} → First (GivesNoRow q) (GivesRow q r) items → RowIs q items (Some r)
+
+-- the frames after items: those of the first inline block that lists any
+pub data FramesAre (q : Question) (items : List ItemData) : List InlineFrame → Type 0 where
+  no_inlining : q.inlining ≡ false → FramesAre q items []
+  no_frames : All (GivesNoFrames q) items → FramesAre q items []
+  frames : {f : InlineFrame} {fs : List InlineFrame} → q.inlining ≡ true →
+      First (GivesNoFrames q) (GivesFrames q (f ∷ fs)) items → FramesAre q items (f ∷ fs)
+
+-- why an item refuses when it is read, after a row and frames: a line table's header that doesn't read (9), where no row
+-- is known; an inline block's first fault (10 to 14), where inlining is asked for and no frame is known
+pub data ItemRefuses (q : Question) (known : Option LineTableRow) (fs : List InlineFrame) (item : ItemData) : Refusal → Type 0 where
+  header : (c : Cause) → known ≡ None → item.kind ≡ 1 → header_of item.bytes 0 ≡ Err c →
+      ItemRefuses q known fs item refused.UnreadLineHeader
+  block : (r : Refusal) → q.inlining ≡ true → fs ≡ [] → item.kind ≡ 2 →
+      FirstFault q.room (steps_of q.symbol.0 q.addr.0 item.bytes) r → ItemRefuses q known fs item r
+
+-- the first item that refuses: those before it are read, and give a row or none, and frames or none
+pub record FirstRefusing (q : Question) (items : List ItemData) (r : Refusal) : Type 0 where
+  pub before : List ItemData
+  pub this : ItemData
+  pub after : List ItemData
+  pub split : items ≡ before ++ this ∷ after
+  pub known_row : Option LineTableRow
+  pub row_is : RowIs q before known_row
+  pub known_frames : List InlineFrame
+  pub frames_are : FramesAre q before known_frames
+  pub refuses : ItemRefuses q known_row known_frames this r
+
+-- ---- a position, and later frames
+
+-- directory and file name of the file index read
+pub record HasPosition (t : SharedTables) (index : FileIndex) : Type 0 where
+  pub file : FileInfo
+  pub there : slice_get t.files index.0 ≡ Some file
+  pub dir : reads_text t file.directory ≡ true
+  pub name : reads_text t file.filename ≡ true
+
+-- why a position doesn't read: the index (7), the directory (8), then the file name (8)
+pub data NoPosition (t : SharedTables) (index : FileIndex) : Refusal → Type 0 where
+  no_file : length t.files ≤ index.0 → NoPosition t index refused.UnknownFile
+  no_dir : (file : FileInfo) → slice_get t.files index.0 ≡ Some file → reads_text t file.directory ≡ false →
+      NoPosition t index refused.UnreadPath
+  no_file_name : (file : FileInfo) → slice_get t.files index.0 ≡ Some file → reads_text t file.directory ≡ true →
+      reads_text t file.filename ≡ false → NoPosition t index refused.UnreadPath
+
+-- a later frame reads
+abbrev pub HasCall : SharedTables → InlineFrame → Type 0
+HasCall t f = (reads_name t f.name ≡ true) × HasPosition t f.call_file
+
+-- why it doesn't: its name (6), then its call site (7, 8)
+pub data NoCall (t : SharedTables) (f : InlineFrame) : Refusal → Type 0 where
+  no_name : reads_name t f.name ≡ false → NoCall t f refused.UnreadName
+  no_site : {r : Refusal} → reads_name t f.name ≡ true → NoPosition t f.call_file r → NoCall t f r
+
+-- ---- an entry, and a lookup
+
+-- the entry covers the address, its name reads, and code info is asked for
+pub record Asked (t : SharedTables) (symbol : Address) (d : EntryData) (addr : Address) (o : Options) : Type 0 where
+  pub covered : covered_by addr symbol d.size ≡ true
+  pub named : reads_name t d.name ≡ true
+  pub code : o.code_info ≡ true
+
+-- and the items give this row and these frames
+pub record ItemsGive (t : SharedTables) (symbol : Address) (d : EntryData) (addr : Address) (o : Options) (room : ℕ)
+    (known : Option LineTableRow) (fs : List InlineFrame) : Type 0 where
+  pub asked : Asked t symbol d addr o
+  pub row_is : RowIs (question symbol addr room o.inlining) d.items known
+  pub frames_are : FramesAre (question symbol addr room o.inlining) d.items fs
+
+-- why what an entry says is a refusal, in the order of RULES
+pub data Unanswered (t : SharedTables) (symbol : Address) (d : EntryData) (addr : Address) (o : Options) (room : ℕ) : Refusal → Type 0 where
+  -- 1: the symbol doesn't cover the address
+  uncovered : covered_by addr symbol d.size ≡ false → Unanswered t symbol d addr o room refused.UnknownAddress
+  -- 6: its name doesn't read
+  unnamed : covered_by addr symbol d.size ≡ true → reads_name t d.name ≡ false →
+      Unanswered t symbol d addr o room refused.UnreadName
+  -- 9 to 14: an item refuses
+  unread : {r : Refusal} → Asked t symbol d addr o →
+      FirstRefusing (question symbol addr room o.inlining) d.items r → Unanswered t symbol d addr o room r
+  -- 7, 8: the row's position
+  unplaced : {r : Refusal} (row : LineTableRow) (fs : List InlineFrame) → ItemsGive t symbol d addr o room (Some row) fs →
+      NoPosition t row.file_idx r → Unanswered t symbol d addr o room r
+  -- 6: the first frame's name
+  first_unnamed : (row : LineTableRow) (f : InlineFrame) (fs : List InlineFrame) →
+      ItemsGive t symbol d addr o room (Some row) (f ∷ fs) → HasPosition t row.file_idx → reads_name t f.name ≡ false →
+      Unanswered t symbol d addr o room refused.UnreadName
+  -- 6, 7, 8: the first later frame that doesn't read
+  uncalled : {r : Refusal} (row : LineTableRow) (f : InlineFrame) (fs : List InlineFrame) →
+      ItemsGive t symbol d addr o room (Some row) (f ∷ fs) → HasPosition t row.file_idx → reads_name t f.name ≡ true →
+      First (HasCall t) (λ g. NoCall t g r) fs → Unanswered t symbol d addr o room r
+
+-- why a lookup is a refusal, in the order of RULES
+pub data Met (file : List ℕ) (addr : Address) (o : Options) (room : ℕ) : Refusal → Type 0 where
+  -- 2, 3, 4: the file doesn't open
+  not_opened : {r : Refusal} → Unopened file r → Met file addr o room r
+  -- 1: no entry is chosen
+  not_found : (v : View) → opened_of file ≡ Ok v → Nowhere v addr → Met file addr o room refused.UnknownAddress
+  -- 5: the entry's information doesn't read
+  no_info : (v : View) (i : ℕ) → opened_of file ≡ Ok v → find_of v addr ≡ Some i → data_at v i ≡ None →
+      Met file addr o room refused.UnreadInfo
+  -- 1 and 6 to 14: what the entry says
+  by_entry : {r : Refusal} (E : Entered file addr) →
+      Unanswered (shared_tables E.view) (symbol_at E.view E.index) E.entry addr o room r → Met file addr o room r

@@ -1,0 +1,80 @@
+//! Laws of the definitions that contracts name. Nothing runs here: each clause is about the definitions alone.
+ghost use Rattle.std.specs.Prelude.{◌≡◌, ◌↔◌, ◌≤◌, ◌⊎◌, ℕ, false, List, Ok, Err, IsOk};
+ghost use Rattle.std.specs.Result.{result_map_both};
+ghost use Rattle.gsym_types.specs.declared.Address.{Address};
+ghost use Rattle.gsym_types.specs.declared.Options.{Options};
+ghost use Rattle.gsym_types.specs.declared.Refusal.{Refusal};
+ghost use Rattle.gsym_types.specs.declared.Refusal.TheVariants.{TooManyFrames};
+ghost use Rattle.gsym_types.specs.Refusal.{number_of};
+ghost use Rattle.gsym_parser.specs.Entries.{symbol_at};
+ghost use Rattle.gsym_resolver.specs.Examples.{MarkedExamples};
+ghost use Rattle.gsym_resolver.specs.WholeLookups.{WholeLookups};
+ghost use Rattle.gsym_resolver.specs.Lookup.{LookedUp, lookup_of};
+ghost use Rattle.gsym_resolver.specs.EntryData.{Entered};
+ghost use Rattle.gsym_resolver.specs.SharedTables.{shared_tables};
+ghost use Rattle.gsym_resolver.specs.EntryAnswer.{entry_answer};
+ghost use Rattle.gsym_resolver.specs.WithPlaces.{lookup_in_values, with_texts, answer_texts};
+ghost use Rattle.gsym_resolver.specs.Met.{Met};
+ghost use Rattle.gsym_resolver.specs.Answered.{Answered};
+ghost use Rattle.gsym_resolver.specs.Blocks.{RefusedByBlock};
+
+use gsym_types::{Address, Options};
+
+/// The marked examples T1 to T12 (RULES, "Marked examples").
+pub fn marked_examples()
+    ensures { MarkedExamples }
+{}
+
+/// A file of one symbol, written out, and what its lookups answer: at three addresses with all options, without each of
+/// them, with more and with less room than its frames need, past the symbol and below the base (RULES, "Putting the answer
+/// together").
+pub fn whole_lookups()
+    ensures { WholeLookups }
+{}
+
+/// The whole lookup told on the places of a file is that told in values, with places last (RULES, from "Header and
+/// tables" to "Putting the answer together").
+#[tactic(auto, using(crate::proofs::Joined::lookup_with_places))]
+pub fn told_in_values(file: &[u8], addr: Address, options: Options, room: usize)
+    ensures { lookup_of file.now addr options room ≡ lookup_in_values file.now addr options room }
+{}
+
+/// A lookup is refused exactly where the condition of its refusal is met, the first in the order of RULES ("Refusal
+/// numbers"), and answers exactly what the data of the entry say that the address lands on; there is an answer exactly if
+/// no condition is met.
+pub fn refused_or_answered()
+    ensures refused { (file : List ℕ) (addr : Address) (options : Options) (room : ℕ) (r : Refusal)
+        → (lookup_of file addr options room ≡ Err r) ↔ Met file addr options room r }
+    ensures answered { (file : List ℕ) (addr : Address) (options : Options) (room : ℕ) (l : LookedUp)
+        → (lookup_of file addr options room ≡ Ok l) ↔ Answered file addr options room l }
+    ensures unmet { (file : List ℕ) (addr : Address) (options : Options) (room : ℕ)
+        → IsOk (lookup_of file addr options room) ↔ ((r : Refusal) → Met file addr options room r → ⊥) }
+{}
+
+/// Without code info a refusal is one of 1 to 6, without inlining one of 1 to 9; from 10 on it is the first fault of one
+/// of the entry's inline blocks, the first that doesn't list none (RULES, "Refusal numbers" and "Calls").
+pub fn refusals_by_option()
+    ensures bare { (file : List ℕ) (addr : Address) (options : Options) (room : ℕ) → options.code_info ≡ false
+        → (r : Refusal) → lookup_of file addr options room ≡ Err r → number_of r ≤ 6 }
+    ensures plain { (file : List ℕ) (addr : Address) (options : Options) (room : ℕ) → options.inlining ≡ false
+        → (r : Refusal) → lookup_of file addr options room ≡ Err r → number_of r ≤ 9 }
+    ensures blocks { (file : List ℕ) (addr : Address) (options : Options) (room : ℕ) (r : Refusal) → 10 ≤ number_of r
+        → lookup_of file addr options room ≡ Err r → RefusedByBlock file addr options room r }
+{}
+
+/// More room changes nothing but that there are too many frames (RULES, "Inline tree"): a lookup with less room is refused
+/// so, or is the lookup with more.
+pub fn more_room()
+    ensures { (room more : ℕ) → room ≤ more → (addr : Address) (options : Options) (file : List ℕ)
+        → (lookup_of file addr options room ≡ Err TooManyFrames)
+        ⊎ (lookup_of file addr options room ≡ lookup_of file addr options more) }
+{}
+
+/// With each text as the bytes that it stands for, a lookup depends on the shared tables, the symbol's address and the
+/// data of the entry alone (RULES, "Strings" and "Putting the answer together").
+pub fn texts_from_values()
+    ensures { (file : List ℕ) (addr : Address) (options : Options) (room : ℕ) (e : Entered file addr)
+        → result_map_both (with_texts file) (λ r. r) (lookup_of file addr options room)
+        ≡ result_map_both (answer_texts (shared_tables e.view)) (λ r. r)
+        (entry_answer (shared_tables e.view) (symbol_at e.view e.index) e.entry addr options room) }
+{}

@@ -1,0 +1,11 @@
+mod Table
+mod Ranges
+pub mod Leading
+mod Chars
+mod Passing
+pub mod Runs
+pub mod Counting
+mod Names
+pub mod Texts
+mod Scalars
+mod Told

@@ -1,0 +1,75 @@
+-- `gsym_strtab::utf8::char_len` meets its contract: each way out is a law of the bytes judged so far (proofs/Chars.antt).
+-- Assumes nothing.
+use Rattle.std.proofs.Common.{ℕ, ◌+◌, ◌-◌, ◌≤◌, ◌<◌, Bool, true, List, length, get_or, ◌≡◌, sym, ◌∙◌, arith}
+use Rattle.gsym_strtab.specs.Utf8.{within, tail, sequence_len}
+use Rattle.gsym_strtab.specs.Steps.{second}
+use Rattle.gsym_strtab.proofs.Chars.{Lead, Twos, Threes, one-is, cut, second-wrong, two-are, two-wrong}
+use Rattle.gsym_strtab.proofs.Chars.{third-wrong, three-are, fourth-wrong, four_are}
+use Rattle.gsym_strtab.proofs.utf8.char_len.Goals as goal
+
+module _ {s : List ℕ} {i n : ℕ} where
+  lead : i < length s → get_or s i 0 < 256 → n ≡ sequence_len (get_or s i 0) → Lead s i n
+  lead h b e = record { inside = h; byte = b; sequence = e }
+
+  twos : Lead s i n → 2 ≤ n → n ≤ length s - i →
+      (t : Bool) → t ≡ within (second (get_or s i 0)) (get_or s (i + 1) 0) → t ≡ true → Twos s i n
+  twos h k l t e f = record { lead = h; several = k; room = l; second_is = sym e ∙ f }
+
+  threes : Twos s i n → 3 ≤ n → (t : Bool) → t ≡ within tail (get_or s (i + 2) 0) → t ≡ true → Threes s i n
+  threes h k t e f = record { twos = h; more = k; third-is = sym e ∙ f }
+
+pub returns-then-n-lt2 : goal.returns-then-n-lt2
+returns-then-n-lt2 c =
+    let l : Lead c.args.s.now c.args.at c.sequence_len-n.result = lead c.requires (omega arith) c.sequence_len-n.ensures in
+    one-is l c.if-n-lt2.true
+
+pub returns-then-s-at : goal.returns-then-s-at
+returns-then-s-at c =
+    let l : Lead c.args.s.now c.args.at c.sequence_len-n.result = lead c.requires (omega arith) c.sequence_len-n.ensures in
+    cut l c.if-n-lt2.false (omega arith)
+
+pub returns-then-not-is_second : goal.returns-then-not-is_second
+returns-then-not-is_second c =
+    let l : Lead c.args.s.now c.args.at c.sequence_len-n.result = lead c.requires (omega arith) c.sequence_len-n.ensures in
+    second-wrong l c.if-n-lt2.false (omega arith)
+    (sym c.is_second.ensures ∙ c.if-not-is_second.true)
+
+pub returns-then-follows : goal.returns-then-follows
+returns-then-follows c =
+    let l : Lead c.args.s.now c.args.at c.sequence_len-n.result = lead c.requires (omega arith) c.sequence_len-n.ensures in
+    two-are l c.if-n-lt2.false c.if-n-lt3.true (omega arith) (sym c.is_tail-follows.ensures ∙ c.if-follows.true)
+
+pub returns-else-follows : goal.returns-else-follows
+returns-else-follows c =
+    let l : Lead c.args.s.now c.args.at c.sequence_len-n.result = lead c.requires (omega arith) c.sequence_len-n.ensures in
+    two-wrong l c.if-n-lt2.false c.if-n-lt3.true (omega arith) (sym c.is_tail-follows.ensures ∙ c.if-follows.false)
+
+pub returns-then-not-is_tail : goal.returns-then-not-is_tail
+returns-then-not-is_tail c =
+    let l : Lead c.args.s.now c.args.at c.sequence_len-n.result = lead c.requires (omega arith) c.sequence_len-n.ensures in
+    let t = twos l c.if-n-lt2.false (omega arith) _ c.is_second.ensures c.if-not-is_second.false in
+    third-wrong t c.if-n-lt3.false
+    (sym c.is_tail.ensures ∙ c.if-not-is_tail.true)
+
+pub returns-then-n-lt4 : goal.returns-then-n-lt4
+returns-then-n-lt4 c =
+    let l : Lead c.args.s.now c.args.at c.sequence_len-n.result = lead c.requires (omega arith) c.sequence_len-n.ensures in
+    let t = twos l c.if-n-lt2.false (omega arith) _ c.is_second.ensures c.if-not-is_second.false in
+    let h = threes t c.if-n-lt3.false _ c.is_tail.ensures c.if-not-is_tail.false in
+    three-are h c.if-n-lt4.true
+
+pub returns-then-not-is_tail-2 : goal.returns-then-not-is_tail-2
+returns-then-not-is_tail-2 c =
+    let l : Lead c.args.s.now c.args.at c.sequence_len-n.result = lead c.requires (omega arith) c.sequence_len-n.ensures in
+    let t = twos l c.if-n-lt2.false (omega arith) _ c.is_second.ensures c.if-not-is_second.false in
+    let h = threes t c.if-n-lt3.false _ c.is_tail.ensures c.if-not-is_tail.false in
+    fourth-wrong h c.if-n-lt4.false
+    (sym c.is_tail-2.ensures ∙ c.if-not-is_tail-2.true)
+
+pub returns : goal.returns
+returns c =
+    let l : Lead c.args.s.now c.args.at c.sequence_len-n.result = lead c.requires (omega arith) c.sequence_len-n.ensures in
+    let t = twos l c.if-n-lt2.false (omega arith) _ c.is_second.ensures c.if-not-is_second.false in
+    let h = threes t c.if-n-lt3.false _ c.is_tail.ensures c.if-not-is_tail.false in
+    four_are h c.if-n-lt4.false
+    (sym c.is_tail-2.ensures ∙ c.if-not-is_tail-2.false)

@@ -1,7 +1,0 @@
-mod Digits
-mod Turn
-mod Plain
-mod Passing
-mod Signs
-pub mod Taken
-pub mod Bytes

@@ -1,4 +1,0 @@
-pub mod Leb
-pub mod Answers
-pub mod Ends
-pub mod Examples

@@ -1,5 +1,0 @@
-pub mod Machine
-pub mod Rows
-pub mod Quick
-pub mod Reaches
-pub mod Examples

@@ -1,5 +1,0 @@
-pub mod Window
-pub mod Places
-pub mod Written
-pub mod Steps
-pub mod Maybe

@@ -1,4 +1,0 @@
-pub mod Bytes
-pub mod Answers
-pub mod Steps
-pub mod Maybe

@@ -1,3 +1,0 @@
-pub mod Utf8
-pub mod Strings
-pub mod Steps

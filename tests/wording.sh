@@ -1,0 +1,89 @@
+#!/bin/sh
+# One wording of refusals and one version. The words of crates/gsym_types (`#[error("..")]`) stand for the same number in
+# include/gsym.h (its enum and gsym_refusal_name), in the Rust binding (its text and its page), in the man page, in
+# README.md and in docs/RULES.md ("Refusal numbers"), with the names of the enum where names are given. The version of
+# include/gsym.h is that of gsym_c, of the binding and of the man page. Prints what is otherwise; 1 if anything is.
+set -u
+cd "$(dirname "$0")/.." || exit 2
+tmp=$(mktemp -d) || exit 2
+trap 'rm -rf "$tmp"' EXIT
+bad=0
+
+# a line for each refusal: number, name in capitals, words, parted by tabs
+awk '
+    /^pub enum Refusal / { open = 1; next }
+    open && /^}/ { exit }
+    open && match($0, /#\[error\("[^"]*"\)\]/) { words = substr($0, RSTART + 9, RLENGTH - 12); next }
+    open && match($0, /[A-Z][A-Za-z]*,/) {
+        name = substr($0, RSTART, RLENGTH - 1)
+        gsub(/[A-Z]/, "_&", name)
+        printf "%d\t%s\t%s\n", ++n, toupper(substr(name, 2)), words
+    }' crates/gsym_types/src/lib.rt >"$tmp/words"
+count=$(wc -l <"$tmp/words")
+[ "$count" = 14 ] || { echo "wording: crates/gsym_types has $count refusals with words, and 14 are told of"; exit 1; }
+# the tool prints them inside JSON's quotes
+! cut -f3 "$tmp/words" | grep -n '[\\"]' || { echo "wording: a quote or a backslash in the words"; bad=1; }
+
+# same WHERE: what was found there must be the list above. No pipe ends here: it would set `bad` in a shell of its own.
+same() {
+    if ! diff "$tmp/words" "$tmp/found" >"$tmp/diff"; then
+        echo "wording: $1 says otherwise than crates/gsym_types (<):"
+        grep '^[<>]' "$tmp/diff"
+        bad=1
+    fi
+}
+
+sed -n 's|^    GSYM_\([A-Z_]*\) = \([0-9][0-9]*\),\{0,1\}  *\/\* \(.*\) \*\/$|\2\t\1\t\3|p' include/gsym.h >"$tmp/found"
+same "the enum of include/gsym.h"
+awk '
+    /gsym_refusal_name\(uint32_t number\)/ { open = 1 }
+    open && /^}/ { exit }
+    open && match($0, /"[^"]*"/) { print n++ "\t" substr($0, RSTART + 1, RLENGTH - 2) }' include/gsym.h |
+    sed 1d | awk -F '\t' 'NR == FNR { name[$1] = $2; next } { print $1 "\t" name[$1] "\t" $2 }' "$tmp/words" - >"$tmp/found"
+same "gsym_refusal_name of include/gsym.h"
+
+# the binding: the words above each variant begin with a capital and end with a full stop
+awk '
+    function snake(name) { gsub(/[A-Z]/, "_&", name); return toupper(substr(name, 2)) }
+    /^    \/\/\/ / { line = substr($0, 9) }
+    /^    [A-Z][A-Za-z]* = [0-9]+,/ { print $3 + 0 "\t" snake($1) "\t" tolower(substr(line, 1, 1)) substr(line, 2, length(line) - 2) }
+' bindings/rust/src/refusal.rs >"$tmp/found"
+same "the page of bindings/rust"
+awk '
+    function snake(name) { gsub(/[A-Z]/, "_&", name); return toupper(substr(name, 2)) }
+    /Refusal::[A-Za-z]* => "/ {
+        name = $1; sub(/Refusal::/, "", name)
+        match($0, /"[^"]*"/)
+        print ++n "\t" snake(name) "\t" substr($0, RSTART + 1, RLENGTH - 2)
+    }' bindings/rust/src/refusal.rs >"$tmp/found"
+same "the text of bindings/rust"
+
+# pages: rows of tables that begin with a number, in the section of the refusals
+sed -n '/^\.SH REFUSALS/,/^\.fi/s/^ *\([0-9][0-9]*\)  \(.*\)$/\1\t\2/p' man/gsym-addr2line.1 |
+    awk -F '\t' 'NR == FNR { name[$1] = $2; next } { print $1 "\t" name[$1] "\t" $2 }' "$tmp/words" - >"$tmp/found"
+same "the man page"
+rows() { # FILE: number, and the other cells
+    awk '/^## / { open = $0 == "## Refusal numbers" } open && /^\| *[0-9]+ *\|/' "$1" | sed 's/^| *//; s/ *| */\t/g'
+}
+rows README.md | awk -F '\t' '$1 > 0 { gsub(/`/, "", $2); print $1 "\t" $2 "\t" $3 }' >"$tmp/found"
+same "README.md"
+# in RULES one cell of the row
+rows docs/RULES.md | awk -F '\t' 'NR == FNR { name[$1] = $2; words[$1] = $3; next }
+    $1 > 0 { said = $2; for (i = 2; i <= NF; i++) if ($i == words[$1]) said = $i; print $1 "\t" name[$1] "\t" said }' \
+    "$tmp/words" - >"$tmp/found"
+same "docs/RULES.md"
+
+# ---- the version
+part() { sed -n "s/^#define GSYM_VERSION_$1 \([0-9]*\)\$/\1/p" include/gsym.h; }
+version=$(part MAJOR).$(part MINOR).$(part PATCH)
+number=$(($(part MAJOR) * 10000 + $(part MINOR) * 100 + $(part PATCH)))
+says() { # WHERE WHAT WANTED
+    [ "$2" = "$3" ] || { echo "wording: $1 has version '$2', and include/gsym.h has $3"; bad=1; }
+}
+says crates/gsym_c "$(sed -n 's/^const VERSION: u32 = \([0-9_]*\);$/\1/p' crates/gsym_c/src/lib.rt)" "$number"
+says bindings/rust/Cargo.toml "$(sed -n 's/^version = "\(.*\)"$/\1/p' bindings/rust/Cargo.toml)" "$version"
+says bindings/rust/Cargo.lock "$(sed -n '/^name = "gsym"$/{n;s/^version = "\(.*\)"$/\1/p;}' bindings/rust/Cargo.lock)" "$version"
+says man/gsym-addr2line.1 "$(sed -n 's/^\.TH .*"gsym \([0-9.]*\)".*/\1/p' man/gsym-addr2line.1)" "$version"
+
+[ "$bad" = 0 ] && echo "wording: $count refusals have one wording in seven places, and version $version stands in five"
+exit "$bad"
