@@ -1,10 +1,14 @@
-# libgsym.a, the tool gsym-addr2line and gsym.pc, for hosts without the Rattle toolchain's build.
-#   make                            builds them here; the library is proved first (rt on the PATH)
-#   make install                    PREFIX=/usr/local DESTDIR= ; BINDIR, INCLUDEDIR, LIBDIR, MANDIR may be given too
+# libgsym.a, libgsym.so.0, the tool gsym-addr2line and gsym.pc, for hosts without the Rattle toolchain's build; and
+# `gsym`, the program in Rattle, where the library is made too.
+#   make                            builds them here; the library is proved first (rt on the PATH, of README's kit)
+#   make LIBGSYM=path/libgsym.a     the same over a library that is there, without the toolchain; so in the archive of
+#                                   `make dist`, which has libgsym.a beside this file and no sources of it
+#   make install                    PREFIX=/usr/local DESTDIR= ; BINDIR, INCLUDEDIR, LIBDIR, MANDIR, DOCDIR too
 #   make uninstall                  with the same words
+#   make dist                       target/gsym-VERSION-x86_64-linux.tar.gz and its SHA-256: docs/ARCHIVE.md
 #   make check                      sh test.sh: every proof, every edit, every program
 #   make clean, make distclean      what make built; distclean also target/ and what rt keeps in crates/*/out
-# CC, CPPFLAGS, CFLAGS, LDFLAGS, LDLIBS, INSTALL and RT are honoured.
+# AR, CC, CPPFLAGS, CFLAGS, LDFLAGS, LDLIBS, INSTALL and RT are honoured.
 PREFIX = /usr/local
 DESTDIR =
 BINDIR = $(PREFIX)/bin
@@ -12,6 +16,7 @@ INCLUDEDIR = $(PREFIX)/include
 LIBDIR = $(PREFIX)/lib
 PKGCONFIGDIR = $(LIBDIR)/pkgconfig
 MANDIR = $(PREFIX)/share/man
+DOCDIR = $(PREFIX)/share/doc/gsym
 
 CFLAGS ?= -O2 -g
 INSTALL ?= install
@@ -20,54 +25,110 @@ INSTALL_DATA = $(INSTALL) -m 644
 RT ?= rt
 
 HEADER = include/gsym.h
+PAGES = docs/PROMISES.md docs/RULES.md docs/ARCHIVE.md
+number = $(shell sed -n 's/^\#define GSYM_$(1) \([0-9]*\)$$/\1/p' $(HEADER))
+VERSION = $(call number,VERSION_MAJOR).$(call number,VERSION_MINOR).$(call number,VERSION_PATCH)
+# the shared library's name: the major version, and how records lie in memory
+SONAME = libgsym.so.$(call number,VERSION_MAJOR).$(call number,LAYOUT)
+
+# the library: made here from the sources that stand here, or the one that LIBGSYM names
+LIBGSYM = libgsym.a
+ifneq ($(wildcard crates.txt),)
 SOURCES := crates.txt $(shell find crates -name out -prune -o \( -name '*.rt' -o -name '*.antt' \) -print)
-part = $(shell sed -n 's/^\#define GSYM_VERSION_$(1) \([0-9]*\)$$/\1/p' $(HEADER))
-VERSION = $(call part,MAJOR).$(call part,MINOR).$(call part,PATCH)
+endif
 
-all: libgsym.a gsym-addr2line gsym.pc
+# the program in Rattle, made where the library is made too
+GSYM = $(if $(SOURCES),$(if $(filter libgsym.a,$(LIBGSYM)),gsym))
 
+all: $(LIBGSYM) libgsym.so.0 gsym-addr2line gsym.pc $(GSYM)
+
+ifneq ($(SOURCES),)
 libgsym.a: $(SOURCES)
+	RT='$(RT)' sh tools/kit.sh
 	cd crates/gsym_c && $(RT) lib
-	cp crates/gsym_c/out/libgsym_c.a $@
+	cd crates/gsym_text_c && $(RT) lib
+	rm -rf target/objects $@
+	mkdir -p target/objects
+	cd target/objects && for crate in gsym_c gsym_text_c; do \
+	    $(AR) x ../../crates/$$crate/out/lib$$crate.a || exit 1; done
+	$(AR) rcsD $@ target/objects/gsym_c.o target/objects/gsym_text_c.o
+
+gsym: $(SOURCES)
+	RT='$(RT)' sh tools/kit.sh
+	cd crates/gsym_tool && $(RT) run -- --version
+	cp crates/gsym_tool/out/gsym_tool $@
 
 # parts of the reader, for the comparison and the bench
 target/libreader_c.a: $(SOURCES)
+	RT='$(RT)' sh tools/kit.sh
 	cd crates/reader_c && $(RT) lib
 	mkdir -p target
 	cp crates/reader_c/out/libreader_c.a $@
+endif
 
-TOOL = host/gsym-addr2line.c host/print.c
+# changes where the library that is linked does, so that what was linked with another is made anew
+target/linked: FORCE
+	@mkdir -p target
+	@echo '$(abspath $(LIBGSYM))' | cmp -s - $@ || echo '$(abspath $(LIBGSYM))' >$@
 
-gsym-addr2line: $(TOOL) host/print.h $(HEADER) libgsym.a
-	$(CC) -std=c11 -Iinclude $(CPPFLAGS) $(CFLAGS) $(LDFLAGS) -o $@ $(TOOL) libgsym.a $(LDLIBS)
+# what hosts may call and nothing else; -z text: it is fit to be shared, -z defs: nothing is missing
+libgsym.so.0: $(LIBGSYM) $(HEADER) host/gsym.map target/linked
+	$(CC) -shared $(LDFLAGS) -Wl,-soname,$(SONAME) -Wl,--version-script=host/gsym.map -Wl,-z,text,-z,defs -o $@ \
+	    -Wl,--whole-archive $(LIBGSYM) -Wl,--no-whole-archive
+
+TOOL = host/gsym-addr2line.c host/file.c
+
+gsym-addr2line: $(TOOL) host/file.h $(HEADER) $(LIBGSYM) target/linked
+	$(CC) -std=c11 -Iinclude $(CPPFLAGS) $(CFLAGS) $(LDFLAGS) -o $@ $(TOOL) $(LIBGSYM) $(LDLIBS)
 
 # made anew each time: the folders may be others than last time
 gsym.pc: gsym.pc.in $(HEADER) FORCE
 	sed -e 's|@PREFIX@|$(PREFIX)|' -e 's|@LIBDIR@|$(LIBDIR)|' -e 's|@INCLUDEDIR@|$(INCLUDEDIR)|' \
 	    -e 's|@VERSION@|$(VERSION)|' gsym.pc.in >$@
 
+# whoever links dynamically needs the name in the library; libgsym.so is what -lgsym finds
 install: all
-	$(INSTALL) -d '$(DESTDIR)$(BINDIR)' '$(DESTDIR)$(INCLUDEDIR)' '$(DESTDIR)$(LIBDIR)' \
-	    '$(DESTDIR)$(PKGCONFIGDIR)' '$(DESTDIR)$(MANDIR)/man1'
+	$(INSTALL) -d '$(DESTDIR)$(BINDIR)' '$(DESTDIR)$(INCLUDEDIR)' '$(DESTDIR)$(LIBDIR)' '$(DESTDIR)$(PKGCONFIGDIR)' \
+	    '$(DESTDIR)$(MANDIR)/man1' '$(DESTDIR)$(MANDIR)/man3' '$(DESTDIR)$(DOCDIR)/docs' '$(DESTDIR)$(DOCDIR)/examples'
 	$(INSTALL_PROGRAM) gsym-addr2line '$(DESTDIR)$(BINDIR)/gsym-addr2line'
+	$(if $(GSYM),$(INSTALL_PROGRAM) gsym '$(DESTDIR)$(BINDIR)/gsym')
+	$(if $(GSYM),$(INSTALL_DATA) man/gsym.1 '$(DESTDIR)$(MANDIR)/man1/gsym.1')
 	$(INSTALL_DATA) $(HEADER) '$(DESTDIR)$(INCLUDEDIR)/gsym.h'
-	$(INSTALL_DATA) libgsym.a '$(DESTDIR)$(LIBDIR)/libgsym.a'
+	$(INSTALL_DATA) $(LIBGSYM) '$(DESTDIR)$(LIBDIR)/libgsym.a'
+	$(INSTALL_PROGRAM) libgsym.so.0 '$(DESTDIR)$(LIBDIR)/$(SONAME)'
+	ln -sf $(SONAME) '$(DESTDIR)$(LIBDIR)/libgsym.so.0'
+	ln -sf $(SONAME) '$(DESTDIR)$(LIBDIR)/libgsym.so'
 	$(INSTALL_DATA) gsym.pc '$(DESTDIR)$(PKGCONFIGDIR)/gsym.pc'
 	$(INSTALL_DATA) man/gsym-addr2line.1 '$(DESTDIR)$(MANDIR)/man1/gsym-addr2line.1'
+	$(INSTALL_DATA) man/gsym.3 '$(DESTDIR)$(MANDIR)/man3/gsym.3'
+	$(INSTALL_DATA) LICENSE NOTICE '$(DESTDIR)$(DOCDIR)/'
+	$(INSTALL_DATA) $(PAGES) '$(DESTDIR)$(DOCDIR)/docs/'
+	$(INSTALL_DATA) examples/handler.c '$(DESTDIR)$(DOCDIR)/examples/'
 
 uninstall:
-	rm -f '$(DESTDIR)$(BINDIR)/gsym-addr2line' '$(DESTDIR)$(INCLUDEDIR)/gsym.h' '$(DESTDIR)$(LIBDIR)/libgsym.a' \
-	    '$(DESTDIR)$(PKGCONFIGDIR)/gsym.pc' '$(DESTDIR)$(MANDIR)/man1/gsym-addr2line.1'
+	rm -f '$(DESTDIR)$(BINDIR)/gsym' '$(DESTDIR)$(MANDIR)/man1/gsym.1' '$(DESTDIR)$(BINDIR)/gsym-addr2line'
+	rm -f '$(DESTDIR)$(INCLUDEDIR)/gsym.h' '$(DESTDIR)$(LIBDIR)/libgsym.a' \
+	    '$(DESTDIR)$(LIBDIR)/$(SONAME)' '$(DESTDIR)$(LIBDIR)/libgsym.so.0' '$(DESTDIR)$(LIBDIR)/libgsym.so' \
+	    '$(DESTDIR)$(PKGCONFIGDIR)/gsym.pc' '$(DESTDIR)$(MANDIR)/man1/gsym-addr2line.1' '$(DESTDIR)$(MANDIR)/man3/gsym.3'
+	rm -rf '$(DESTDIR)$(DOCDIR)'
+
+# nothing in it comes from this machine's C compiler: the same sources and the same kit give the same bytes
+FILES = Makefile LICENSE NOTICE gsym.pc.in $(HEADER) $(PAGES) $(TOOL) host/file.h host/gsym.map \
+    host/sample/connector.gsym man/gsym-addr2line.1 man/gsym.3 examples/handler.c
+NAME = gsym-$(VERSION)-x86_64-linux
+
+dist: $(LIBGSYM) $(FILES)
+	sh tools/dist.sh '$(NAME)' '$(LIBGSYM)' $(FILES)
 
 check:
 	sh test.sh
 
 clean:
-	rm -f libgsym.a gsym-addr2line gsym.pc
+	rm -f $(if $(SOURCES),libgsym.a gsym) libgsym.so.0 gsym-addr2line gsym.pc
 
 distclean: clean
-	rm -rf target crates/*/out
+	rm -rf target $(if $(SOURCES),crates/*/out)
 
 FORCE:
 
-.PHONY: all install uninstall check clean distclean FORCE
+.PHONY: all install uninstall dist check clean distclean FORCE

@@ -1,12 +1,33 @@
 #!/bin/sh
-# Proves and builds the library and gsym-addr2line, and resolves a sample crash with it: a made-up stock connector that died
-# while it posted an order (host/sample). The first run proves everything below it, which takes minutes; later ones seconds.
+# Proves and builds the library, gsym-addr2line and `gsym`, and resolves a sample crash: a made-up stock connector that
+# died while it posted an order (host/sample). The first run proves everything below them; later ones take seconds.
 set -eu
 cd "$(dirname "$0")"
-command -v rt >/dev/null 2>&1 || { echo "run.sh: the Rattle toolchain's command 'rt' is not on the PATH"; exit 2; }
 command -v make >/dev/null 2>&1 || { echo "run.sh: 'make' is not on the PATH"; exit 2; }
+sh tools/kit.sh || exit 2
 mkdir -p target
-make >target/run.log 2>&1 || { tail -n 20 target/run.log; exit 1; }
+log=target/run.log
+: >"$log"
+echo "Proves and builds the library, gsym-addr2line and gsym, and resolves a sample crash. The first run takes at most"
+echo "half an hour of processor time, less than ten minutes on four processors; later ones seconds. Log: $log"
+make >"$log" 2>&1 &
+building=$!
+trap 'kill $building 2>/dev/null' INT TERM
+# a line for what each crate has come to, as rt writes it to the log
+progress() {
+    awk '/^rt: chose --jobs [0-9]+ for / { name = $NF }
+        /^so far: [1-9][0-9]* of / { print "  " name ": " $3 " of " $5 " functions" }
+        /^crate [a-z_]*: / { sub(":", "", $2); print "  " $2 ": proved" }' "$log"
+}
+told=0
+while kill -0 $building 2>/dev/null; do
+    sleep 1
+    lines=$(progress | wc -l)
+    [ "$lines" -eq "$told" ] || progress | sed -n "$((told + 1)),${lines}p"
+    told=$lines
+done
+wait $building || { tail -n 20 "$log"; echo "run.sh: it failed; the whole log is $log"; exit 1; }
+echo
 sample=host/sample/connector.gsym
 echo "$ gsym-addr2line -e $sample -afip 0x1155"
 ./gsym-addr2line -e $sample -afip 0x1155

@@ -11,15 +11,10 @@ fail() {
     exit 1
 }
 
-command -v rt >/dev/null 2>&1 || fail "the Rattle toolchain's command 'rt' is not on the PATH"
-pinned=$(sed -n 's/^Kit: `\([^`]*\)`.*/\1/p' README.md)
-[ -n "$pinned" ] || fail "README.md has no line that pins the kit"
-found=$(rt version)
-[ "$found" = "$pinned" ] || fail "this repository is proved with '$pinned' (README.md), and this machine has '$found': \
-install that kit, or prove all anew with this one and change the pin"
+sh tools/kit.sh || fail "no kit to test with (above)"
 
 sh tests/promises.sh || fail "docs/PROMISES.md and the public functions disagree (above)"
-sh tests/wording.sh || fail "refusals or the version are told in two ways (above)"
+sh tests/wording.sh || fail "refusals, the version or the layout are told in two ways (above)"
 
 # rt's last line is held back until the edits' reasons are judged, so that it stays the last one printed
 tmp=$(mktemp -d) || exit 2

@@ -47,6 +47,7 @@ for file in "$tmp/vmlinux612.gsym" "$corpus/cpp-gcc.gsym" "$corpus/rs-calc.gsym"
     done
 done
 row "tables without a row" lookup tables "tables without a row"
+row "line tables of one row" lookup rows "line tables of one row"
 row "names of two-byte letters" lookup letters "names of two-byte letters"
 
 missing=$(awk -F ' [|] ' 'NR == FNR { seen[$1] = 1; next } NF > 2 && !/^#/ && !($1 in seen) { print $1 }' "$tmp/rows" "$base")

@@ -1,6 +1,6 @@
 // Whole lookups on both sides: `lookup FILE check`, `lookup FILE time PASSES`, `lookup FILE rust|rattle KIND` (one pass, for
-// callgrind) or `lookup scale PASSES`. FILE may be `tables` or `letters`, files that are made here. The Rust opens its file
-// once, as its users do; this reader has nothing to open.
+// callgrind) or `lookup scale PASSES`. FILE may be `tables`, `rows` or `letters`, files that are made here. The Rust opens
+// its file once, as its users do; this reader has nothing to open.
 mod made;
 mod shared;
 
@@ -99,6 +99,10 @@ fn kinds(word: &str) -> (shared::Aligned, Vec<Kind>) {
         "tables" => {
             let kind = Kind { name: "tables without a row", options: Options::CODE_INFO, addrs: vec![0x1008] };
             (shared::aligned(made::tables(2_000_000)), vec![kind])
+        }
+        "rows" => {
+            let kind = Kind { name: "line tables of one row", options: Options::CODE_INFO, addrs: vec![0x1008] };
+            (shared::aligned(made::rows(2_000_000)), vec![kind])
         }
         "letters" => {
             let file = shared::aligned(made::letters(1024, 64));

@@ -1,4 +1,5 @@
-// Files made for rows of the bench: many symbols by name alone, line tables without a row, names of two-byte letters.
+// Files made for rows of the bench: many symbols by name alone, line tables without a row and with one that is past the
+// address, names of two-byte letters.
 
 // A file of symbols at 0x1000, `size` bytes apart and so large: the string table's bytes, then what stands at each data
 // offset behind it.
@@ -42,6 +43,11 @@ pub fn plain(n: u32) -> Vec<u8> {
 // One symbol with so many line tables, none of which has a row.
 pub fn tables(n: usize) -> Vec<u8> {
     file(16, b"\0main\0\0\0", &[info(16, 1, &item(1, &[0, 0, 1, 0]).repeat(n))])
+}
+
+// The same, each with one row, 15 bytes past the symbol's start.
+pub fn rows(n: usize) -> Vec<u8> {
+    file(16, b"\0main\0\0\0", &[info(16, 1, &item(1, &[0, 0, 1, 2, 15, 0]).repeat(n))])
 }
 
 // Symbols whose names are so many letters of two bytes each, all different.

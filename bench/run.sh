@@ -23,13 +23,14 @@ for build in whole one; do
     done
 done
 
-set -- "$tmp/vmlinux612.gsym" "$corpus/cpp-gcc.gsym" "$corpus/rs-calc.gsym" tables letters
+set -- "$tmp/vmlinux612.gsym" "$corpus/cpp-gcc.gsym" "$corpus/rs-calc.gsym" tables rows letters
 for file in "$@"; do "$tmp/lookup" "$file" check; done
 for file in "$@"; do
     echo
     case $file in
     *.gsym) echo "lookups in $(basename "$file" .gsym), 100,000 addresses" ;;
     tables) echo "one lookup in a file made for it: 2,000,000 line tables" ;;
+    rows) echo "one lookup in a file made for it: 2,000,000 line tables of one row" ;;
     letters) echo "lookups in a file made for them, 100,000 addresses: 1,024 names of 64 letters" ;;
     esac
     "$tmp/lookup" "$file" time "$passes"

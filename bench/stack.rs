@@ -1,13 +1,28 @@
 // A block of 64 levels, the deepest that is read, on a thread with little stack: `stack BYTES open|closed`. Open: every
 // node contains the address; closed: none does, and all are passed over. The program is killed where it is too little.
 #[repr(C)]
+#[derive(Clone, Copy, Default)]
+struct InlineFrame {
+    name: u32,
+    call_file: u32,
+    call_line: u32,
+}
+
+#[repr(C)]
 struct BlockAnswer {
     count: usize,
     number: u8,
 }
 
 extern "C" {
-    fn gsym_block(block: *const u8, len: usize, symbol: u64, addr: u64, store: *mut u32, room: usize) -> BlockAnswer;
+    fn gsym_block(
+        block: *const u8,
+        len: usize,
+        symbol: u64,
+        addr: u64,
+        frames: *mut InlineFrame,
+        room: usize,
+    ) -> BlockAnswer;
 }
 
 fn chain() -> Vec<u8> {
@@ -25,8 +40,8 @@ fn main() {
     let addr = if args[2] == "open" { 0x1001 } else { 0x2000 };
     let read = move || {
         let block = chain();
-        let mut store = vec![0u32; 192];
-        let a = unsafe { gsym_block(block.as_ptr(), block.len(), 0x1000, addr, store.as_mut_ptr(), store.len() / 3) };
+        let mut frames = vec![InlineFrame::default(); 64];
+        let a = unsafe { gsym_block(block.as_ptr(), block.len(), 0x1000, addr, frames.as_mut_ptr(), frames.len()) };
         assert_eq!((a.number, a.count), (0, if addr == 0x1001 { 64 } else { 0 }));
         println!("a block of 64 levels ({}) is read on a thread with {bytes} bytes of stack", args[2]);
     };

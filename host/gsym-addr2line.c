@@ -4,33 +4,24 @@
  * could be given (usage, no file, not a GSYM file, input that can't be read, output that can't be written).
  */
 #define _GNU_SOURCE /* getopt_long, getline */
-#include <ctype.h>
 #include <errno.h>
 #include <fcntl.h>
 #include <getopt.h>
 #include <signal.h>
+#include <stdio.h>
 #include <stdlib.h>
 #include <string.h>
-#include <sys/mman.h>
 #include <sys/stat.h>
 #include <unistd.h>
 
-#include "print.h"
+#include "file.h"
+#include "gsym.h"
 
-enum { TROUBLE = 2 };
-
-static const char *file_name = "?";
-
-static void trouble(const char *what, const char *why)
-{
-    fprintf(stderr, "gsym-addr2line: %s: %s\n", what, why);
-    exit(TROUBLE);
-}
-
-/* A word that should be an address, which may have any bytes in it. */
-struct word {
-    const char *text;
-    size_t len;
+/* What is asked of each address. */
+struct asked {
+    struct lent file;
+    uint32_t view;
+    uint64_t base;
 };
 
 /* The mapped file shrank under us: nothing more can be answered. Only calls that are safe in a handler. */
@@ -43,136 +34,48 @@ static void on_bus(int signal)
     _exit(TROUBLE);
 }
 
-/* Reads what can't be mapped, as a pipe. */
-static struct bytes read_all(int fd)
+/* ---- answers ---- */
+
+/* Prints the answer to a word, which may have any bytes in it; false where it is not known. */
+static bool resolve(const struct asked *asked, const void *word, size_t len)
 {
-    size_t room = 1 << 16, len = 0;
-    uint8_t *all = malloc(room);
+    static uint8_t *room;
+    static size_t room_len;
+    gsym_printed text;
     for (;;) {
-        if (all == NULL)
-            trouble(file_name, strerror(ENOMEM));
-        ssize_t n = read(fd, all + len, room - len);
-        if (n < 0 && errno == EINTR)
-            continue;
-        if (n < 0)
-            trouble(file_name, strerror(errno));
-        if (n == 0)
-            return (struct bytes){all, len};
-        len += (size_t)n;
-        if (len == room) {
-            room *= 2;
-            all = realloc(all, room);
-        }
+        text = gsym_answer_text(asked->file.at, asked->file.len, asked->view, asked->base, word, len, room, room_len);
+        if (text.len <= room_len)
+            break;
+        room_len = (size_t)text.len < 4096 ? 4096 : (size_t)text.len;
+        free(room);
+        room = malloc(room_len);
+        if (room == NULL)
+            trouble("an answer", strerror(ENOMEM));
     }
-}
-
-static struct bytes map_file(void)
-{
-    int fd = open(file_name, O_RDONLY | O_CLOEXEC);
-    struct stat st;
-    if (fd < 0 || fstat(fd, &st) != 0)
-        trouble(file_name, strerror(errno));
-    if (S_ISDIR(st.st_mode))
-        trouble(file_name, strerror(EISDIR));
-    struct bytes file = {NULL, 0};
-    if (S_ISREG(st.st_mode) && st.st_size > 0) {
-        void *at = mmap(NULL, (size_t)st.st_size, PROT_READ, MAP_PRIVATE, fd, 0);
-        if (at == MAP_FAILED)
-            trouble(file_name, strerror(errno));
-        file = (struct bytes){at, (size_t)st.st_size};
-    } else if (!S_ISREG(st.st_mode)) {
-        file = read_all(fd);
+    if (text.number == GSYM_NO_ADDRESS) {
+        char *told = shown(word, len);
+        fprintf(stderr, "gsym-addr2line: '%s' is no address\n", told);
+        free(told);
     }
-    close(fd);
-    if (file.len == 0)
-        trouble(file_name, "the file is empty");
-    return file;
+    fwrite(room, 1, (size_t)text.len, stdout);
+    return text.number == GSYM_FOUND;
 }
 
-/* The tables are judged once, with a clear message; an address alone is refused with 1 or 5 and up. */
-static void judge(struct bytes file)
-{
-    gsym_answer answer = gsym_lookup(file.at, file.len, 0, 0, NULL, 0);
-    if (answer.number >= GSYM_TOO_FEW_BYTES && answer.number <= GSYM_WRONG_VERSION) {
-        fprintf(stderr, "gsym-addr2line: %s: refused: %u, %s\n", file_name, answer.number,
-                gsym_refusal_name(answer.number));
-        exit(TROUBLE);
-    }
-}
-
-/* A hexadecimal number, with or without 0x. */
-static bool parse_address(struct word word, uint64_t *addr)
-{
-    size_t at = word.len >= 2 && word.text[0] == '0' && (word.text[1] == 'x' || word.text[1] == 'X') ? 2 : 0;
-    uint64_t value = 0;
-    if (at == word.len)
-        return false;
-    for (; at < word.len; at++) {
-        unsigned char c = (unsigned char)word.text[at];
-        if (!isxdigit(c) || value >> 60 != 0)
-            return false;
-        value = value << 4 | (uint64_t)(c <= '9' ? c - '0' : (c | 32) - 'a' + 10);
-    }
-    *addr = value;
-    return true;
-}
-
-/* Says that a word is no address. A control byte in it would steer the terminal. */
-static void complain(struct word word)
-{
-    fputs("gsym-addr2line: '", stderr);
-    for (size_t i = 0; i < word.len; i++) {
-        unsigned char c = (unsigned char)word.text[i];
-        fputc(c < 32 || c == 127 ? '?' : c, stderr);
-    }
-    fputs("' is no address\n", stderr);
-}
-
-/* Resolves one address; false where it is not known. */
-static bool resolve(const struct view *view, struct bytes file, struct word word)
-{
-    gsym_frame frames[GSYM_MAX_FRAMES];
-    uint64_t addr = 0;
-    gsym_answer answer = {.number = GSYM_UNKNOWN_ADDRESS};
-    if (parse_address(word, &addr)) {
-        /* the position alone is the same without the frames, and sooner found */
-        uint32_t options = GSYM_CODE_INFO | (view->functions || view->inlines || view->json ? GSYM_INLINING : 0);
-        answer = gsym_lookup(file.at, file.len, addr, options, frames, GSYM_MAX_FRAMES);
-    } else {
-        complain(word);
-        if (view->json) {
-            fputs("{\"address\":null}\n", stdout);
-            return false;
-        }
-    }
-    print_answer(stdout, view, file, addr, &answer, frames);
-    return answer.number == GSYM_FOUND;
-}
-
-/* Whether a byte parts two words of standard input. */
-static bool parts(char c)
-{
-    return c == ' ' || c == '\t' || c == '\r' || c == '\n';
-}
-
-/* Addresses from standard input, each answered as soon as its line is there, for callers at the other end of a pipe. Words
- * are taken by length, so that a zero byte drops none. */
-static bool resolve_input(const struct view *view, struct bytes file)
+/* Addresses from standard input, each answered as soon as its line is there, for callers at the other end of a pipe.
+ * Words are taken by length, so that a zero byte drops none. */
+static bool resolve_input(const struct asked *asked)
 {
     char *line = NULL;
     size_t room = 0;
     bool all = true;
     ssize_t len;
     while (!ferror(stdout) && (len = getline(&line, &room, stdin)) >= 0) {
-        const char *end = line + len;
-        for (const char *at = line; at < end;) {
-            const char *start = at;
-            while (at < end && !parts(*at))
-                at++;
-            if (at > start)
-                all &= resolve(view, file, (struct word){start, (size_t)(at - start)});
-            while (at < end && parts(*at))
-                at++;
+        const uint8_t *rest = (const uint8_t *)line;
+        size_t left = (size_t)len;
+        for (gsym_text word; (word = gsym_next_word(rest, left)).len != 0;) {
+            all &= resolve(asked, rest + word.place, (size_t)word.len);
+            rest += word.place + word.len;
+            left -= (size_t)(word.place + word.len);
         }
         fflush(stdout);
     }
@@ -182,98 +85,200 @@ static bool resolve_input(const struct view *view, struct bytes file)
     return all;
 }
 
+/* ---- options ---- */
+
+/* a list of arguments that grows */
+struct list {
+    char **at;
+    int count;
+    int room;
+};
+
+static void append(struct list *list, char *word)
+{
+    if (list->count + 1 >= list->room) {
+        list->room = list->room == 0 ? 64 : list->room * 2;
+        list->at = realloc(list->at, (size_t)list->room * sizeof *list->at);
+        if (list->at == NULL)
+            trouble("the arguments", strerror(ENOMEM));
+    }
+    list->at[list->count++] = word;
+    list->at[list->count] = NULL;
+}
+
+/* The arguments in a text: parted by white space; quotes keep it, and a backslash keeps the byte behind it. */
+static void append_words(struct list *list, char *text, size_t len)
+{
+    char *to = text, *start = text, quote = 0;
+    bool open = false;
+    for (size_t i = 0; i <= len; i++) {
+        char c = i < len ? text[i] : 0;
+        bool ends = i == len || (quote == 0 && strchr(" \t\r\n\v\f", c) != NULL);
+        if (ends && open) {
+            *to++ = 0;
+            append(list, start);
+            start = to;
+            open = false;
+        }
+        if (ends)
+            continue;
+        open = true;
+        if (c == '\\' && i + 1 < len)
+            *to++ = text[++i];
+        else if (quote != 0 ? c == quote : c == '\'' || c == '"')
+            quote = quote != 0 ? 0 : c;
+        else
+            *to++ = c;
+    }
+}
+
+/* The arguments with those of each @FILE in its place, as addr2line has it: one that can't be opened stays a word. */
+static struct list expand(int argc, char **argv)
+{
+    struct list list = {0};
+    for (int i = 0; i < argc; i++) {
+        int fd = i > 0 && argv[i][0] == '@' ? open(argv[i] + 1, O_RDONLY | O_CLOEXEC) : -1;
+        if (fd < 0) {
+            append(&list, argv[i]);
+            continue;
+        }
+        struct lent text = read_all(fd, argv[i], 1 << 24, "more than 16 MiB of arguments", NULL);
+        close(fd);
+        /* a byte more than was read, for the end of the last word */
+        char *words = malloc(text.len + 1);
+        if (words == NULL)
+            trouble(argv[i], strerror(ENOMEM));
+        memcpy(words, text.at, text.len);
+        append_words(&list, words, text.len);
+    }
+    return list;
+}
+
 static void usage(FILE *out)
 {
-    fputs("usage: gsym-addr2line -e FILE [-a] [-f] [-i] [-p] [--refusals] [--json] [ADDRESS...]\n"
-          "  -e, --exe FILE    the GSYM symbol file\n"
-          "  -a, --addresses   print each address first\n"
-          "  -f, --functions   print function names\n"
-          "  -i, --inlines     print inlined calls too, from the innermost outwards\n"
-          "  -p, --pretty      one line a frame\n"
-          "      --refusals    print a refusal's number and name instead of ??\n"
-          "      --json        one JSON object a line, with all frames\n"
-          "  -h, --help        print this\n"
-          "  -v, --version     print the version\n"
+    fputs("usage: gsym-addr2line -e FILE [-a] [-f] [-i] [-p] [-s] [-C] [--base ADDRESS] [--return-addresses]\n"
+          "                      [--refusals] [--json] [@FILE] [ADDRESS...]\n"
+          "  -e, --exe FILE          the GSYM symbol file\n"
+          "  -a, --addresses         print each address first\n"
+          "  -f, --functions         print function names\n"
+          "  -i, --inlines           print inlined calls too, from the innermost outwards\n"
+          "  -p, --pretty-print      one line a frame\n"
+          "  -s, --basenames         print files without their directories\n"
+          "  -C, --demangle[=STYLE]  accepted, and names are printed as they stand in the file\n"
+          "      --base ADDRESS      where the program was loaded: subtracted from each address first\n"
+          "      --return-addresses  look up the address before each one, where the call stands\n"
+          "      --refusals          print a refusal's number and name instead of ??\n"
+          "      --json              one JSON object a line, with all frames\n"
+          "  @FILE                   read arguments from FILE\n"
+          "  -h, -H, --help          print this\n"
+          "  -v, -V, --version       print the version\n"
           "Addresses are hexadecimal; without any they are read from standard input.\n",
           out);
 }
 
 /* Ends after a text that was asked for. */
-static void done(void)
+static _Noreturn void done(void)
 {
     if (fflush(stdout) != 0)
         trouble("standard output", strerror(errno));
     exit(0);
 }
 
-static struct view parse_options(int argc, char **argv)
+/* Says what was wrong in the options, and how they are. */
+static _Noreturn void misused(const char *why, const char *word)
+{
+    fprintf(stderr, "gsym-addr2line: %s '%s'\n", why, shown(word, strlen(word)));
+    usage(stderr);
+    exit(TROUBLE);
+}
+
+/* The option that getopt stopped at. */
+static _Noreturn void unknown_option(int c, char **argv)
+{
+    const char small[3] = {'-', (char)optopt, 0};
+    bool is_small = optopt > 0 && optopt < 128;
+    misused(c == ':' ? "an option without its argument:" : "no such option:", is_small ? small : argv[optind - 1]);
+}
+
+static uint64_t base_of(const char *word)
+{
+    gsym_number base = gsym_address_of((const uint8_t *)word, strlen(word));
+    if (!base.is_number)
+        misused("--base wants an address, and this is none:", word);
+    return base.value;
+}
+
+enum { REFUSALS = 256, JSON, BASE, RETURN_ADDRESSES };
+
+/* The name of the file that is asked, and the rest in `asked`. */
+static const char *parse_options(int argc, char **argv, struct asked *asked)
 {
     static const struct option options[] = {
-        {"exe", required_argument, NULL, 'e'},  {"addresses", no_argument, NULL, 'a'},
-        {"functions", no_argument, NULL, 'f'},  {"inlines", no_argument, NULL, 'i'},
-        {"pretty", no_argument, NULL, 'p'},     {"pretty-print", no_argument, NULL, 'p'},
-        {"refusals", no_argument, NULL, 'R'},   {"json", no_argument, NULL, 'J'},
-        {"help", no_argument, NULL, 'h'},       {"version", no_argument, NULL, 'v'},
+        {"exe", required_argument, NULL, 'e'},
+        {"addresses", no_argument, NULL, 'a'},
+        {"functions", no_argument, NULL, 'f'},
+        {"inlines", no_argument, NULL, 'i'},
+        {"pretty", no_argument, NULL, 'p'},
+        {"pretty-print", no_argument, NULL, 'p'},
+        {"basenames", no_argument, NULL, 's'},
+        {"demangle", optional_argument, NULL, 'C'},
+        {"base", required_argument, NULL, BASE},
+        {"return-addresses", no_argument, NULL, RETURN_ADDRESSES},
+        {"refusals", no_argument, NULL, REFUSALS},
+        {"json", no_argument, NULL, JSON},
+        {"help", no_argument, NULL, 'h'},
+        {"version", no_argument, NULL, 'v'},
         {NULL, 0, NULL, 0},
     };
-    struct view view = {0};
-    bool named = false;
-    for (int c; (c = getopt_long(argc, argv, "e:afiphv", options, NULL)) != -1;) {
-        switch (c) {
-        case 'e':
-            file_name = optarg;
-            named = true;
-            break;
-        case 'a':
-            view.address = true;
-            break;
-        case 'f':
-            view.functions = true;
-            break;
-        case 'i':
-            view.inlines = true;
-            break;
-        case 'p':
-            view.pretty = true;
-            break;
-        case 'R':
-            view.refusals = true;
-            break;
-        case 'J':
-            view.json = true;
-            break;
-        case 'h':
+    /* what each adds to the view */
+    static const struct {
+        int option;
+        uint32_t view;
+    } views[] = {
+        {'a', GSYM_VIEW_ADDRESSES},  {'f', GSYM_VIEW_FUNCTIONS},
+        {'i', GSYM_VIEW_INLINES},    {'p', GSYM_VIEW_PRETTY},
+        {'s', GSYM_VIEW_BASE_NAMES}, {RETURN_ADDRESSES, GSYM_VIEW_RETURN_ADDRESSES},
+        {JSON, GSYM_VIEW_JSON},      {REFUSALS, GSYM_VIEW_REFUSALS},
+    };
+    const char *name = NULL;
+    opterr = 0;
+    for (int c; (c = getopt_long(argc, argv, ":e:afipsChHvV", options, NULL)) != -1;) {
+        for (size_t k = 0; k < sizeof views / sizeof views[0]; k++)
+            asked->view |= c == views[k].option ? views[k].view : 0;
+        if (c == 'e') {
+            name = optarg;
+        } else if (c == BASE) {
+            asked->base = base_of(optarg);
+        } else if (c == 'h' || c == 'H') {
             usage(stdout);
             done();
-            break;
-        case 'v':
+        } else if (c == 'v' || c == 'V') {
             printf("gsym-addr2line %d.%d.%d\n", GSYM_VERSION_MAJOR, GSYM_VERSION_MINOR, GSYM_VERSION_PATCH);
             done();
-            break;
-        default:
-            usage(stderr);
-            exit(TROUBLE);
+        } else if (c == '?' || c == ':') {
+            unknown_option(c, argv);
         }
     }
-    if (!named) {
+    if (name == NULL) {
         usage(stderr);
         exit(TROUBLE);
     }
-    return view;
+    return name;
 }
 
 int main(int argc, char **argv)
 {
     signal(SIGPIPE, SIG_IGN);
     signal(SIGBUS, on_bus);
-    struct view view = parse_options(argc, argv);
-    struct bytes file = map_file();
-    judge(file);
+    struct asked asked = {0};
+    struct list words = expand(argc, argv);
+    const char *name = parse_options(words.count, words.at, &asked);
+    asked.file = open_symbols(name);
     bool all = true;
-    if (optind == argc)
-        all = resolve_input(&view, file);
-    for (int i = optind; i < argc && !ferror(stdout); i++)
-        all &= resolve(&view, file, (struct word){argv[i], strlen(argv[i])});
+    if (optind == words.count)
+        all = resolve_input(&asked);
+    for (int i = optind; i < words.count && !ferror(stdout); i++)
+        all &= resolve(&asked, words.at[i], strlen(words.at[i]));
     if (fflush(stdout) != 0 || ferror(stdout)) {
         /* a closed pipe is no news: whoever read it had enough */
         if (errno != EPIPE)

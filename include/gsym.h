@@ -1,14 +1,50 @@
 /*
- * gsym.h - what a GSYM symbol file says of an address: the function, its source position, the inlined calls.
+ * gsym.h - what a GSYM symbol file says of an address: the function, its source position, the inlined calls; as
+ * records, or as the text that a tool prints.
+ * Version 0.2.0 of 2026-11-26, for x86-64 Linux. gsym(3) has an example; examples/handler.c is one for a crash handler.
  *
- * Link with libgsym.a (`make`). The library has no state, takes no heap, opens no file and never writes to the file's
- * bytes. Every call ends, on any bytes, any address and any options, and asks nothing of its caller but that pointers
- * and lengths belong together; a pointer may be null where its length is 0. Calls may run at the same time on as many
- * threads as one likes. The file may start at any address. What each call answers and what it leaves in lent memory is
- * proved, not only tested: docs/PROMISES.md says how.
+ * Link with libgsym.a (`make`) or with the shared library (`pkg-config gsym`). The library has no state, takes no heap,
+ * opens no file and never writes to the file's bytes. Every call ends, on any bytes, any address and any options. The
+ * file and the texts may start at any address. What each call answers and what it leaves in lent memory is proved, not
+ * only tested: docs/PROMISES.md says how, docs/RULES.md says in words what is answered. The two functions whose bodies
+ * stand in this header are tested and not proved.
  *
- * Stack: gsym_lookup takes less than 16,384 bytes and gsym_block_frames less than 12,288, measured on trees of 64
- * levels and on refused ones of 65 (tests/c measures anew, and fails above); GSYM_STACK leaves a margin of 8,192.
+ * What is asked of the caller, all of it:
+ *   - `file` has `file_len` readable bytes, which nobody writes and nobody takes away while a call reads them; so have
+ *     `block`, `word` and `bytes` theirs. A mapped file that somebody shortens meanwhile kills the process (SIGBUS):
+ *     map a copy, or a file that nobody changes.
+ *   - `frames` has room for `frames_len` records, may be written, is aligned as the record's type asks for, doesn't
+ *     overlap the file's bytes, and belongs to one call at a time.
+ *   - `room` has `room_len` bytes, may be written, doesn't overlap the bytes that the call reads, and belongs to one
+ *     call at a time.
+ *   - A pointer may be null where its length is 0. No file, text or list has 2^63 bytes.
+ *   - There is enough stack: below.
+ * All else gets an answer or a refusal. Calls may run at the same time on as many threads as one likes, over the same
+ * file too, each with a list of its own.
+ *
+ * Signal handlers: the calls are async-signal-safe. They take no lock, keep no state and touch no errno; all that the
+ * library takes from elsewhere is memcpy and memset, which POSIX counts among the safe functions.
+ *
+ * Stack: a call needs GSYM_STACK bytes. A handler's own stack (sigaltstack) needs
+ *     GSYM_STACK + sysconf(_SC_MINSIGSTKSZ) + what the handler's own frames and callees take
+ * of which the second is what the system puts there for the signal (the constant MINSIGSTKSZ is too little on a
+ * processor with wide registers). gsym_lookup takes less than 16,384 bytes, gsym_block_frames less than 12,288,
+ * gsym_answer_text, which has the records of 64 frames on its stack, less than 24,576, and the others less than 2,048:
+ * measured on trees of 64 levels and on refused ones of 65 (tests/c measures anew, and fails above). GSYM_STACK leaves
+ * a margin of 8,192 above all of them.
+ *
+ * Layout: records and answers get fields as the format gets them. What they look like in memory has a number,
+ * GSYM_LAYOUT, and each call that takes or hands back one of them stands in the library under a name with that number:
+ * the plain name is a macro for it. So an object that was compiled with the header of another layout doesn't link, or
+ * isn't loaded, and never overwrites memory. What holds:
+ *   - a change of a struct, of its order or of a call's arguments raises GSYM_LAYOUT, and with it the name of the
+ *     shared library (libgsym.so.0.2 is layout 2): recompile;
+ *   - within a layout calls, option bits and refusal numbers may be added, and nothing is taken away;
+ *   - gsym_version has no layout: it can be asked of any library. Neither have gsym_shown_text and gsym_refusal_text,
+ *     which take and hand back no struct.
+ *
+ * There are no unwind tables (.eh_frame): a debugger or a profiler that stops inside a call sees no caller beyond it,
+ * and an exception can't be thrown through one. None is: the calls call nothing of yours.
  */
 #ifndef GSYM_H
 #define GSYM_H
@@ -21,7 +57,16 @@
 #define GSYM_VERSION_PATCH 0
 #define GSYM_VERSION (GSYM_VERSION_MAJOR * 10000 + GSYM_VERSION_MINOR * 100 + GSYM_VERSION_PATCH)
 
-#define GSYM_STACK 24576
+/* How records and answers lie in memory, and the names that carry it (above). */
+#define GSYM_LAYOUT 2
+#define gsym_lookup gsym_lookup_2
+#define gsym_block_frames gsym_block_frames_2
+#define gsym_answer_text gsym_answer_text_2
+#define gsym_next_word gsym_next_word_2
+#define gsym_address_of gsym_address_of_2
+
+/* The stack that a call needs, with a margin. */
+#define GSYM_STACK 32768
 
 /* The most frames that a block may have; a longer list is never used further. */
 #define GSYM_MAX_FRAMES 64
@@ -33,7 +78,7 @@ extern "C" {
 #define GSYM_ASSERT(what, why) _Static_assert(what, why)
 #endif
 
-/* ---- refusal numbers; 0 is an answer ---- */
+/* ---- refusal numbers; 0 is an answer. A later library may have more: any other number is a refusal ---- */
 enum {
     GSYM_FOUND = 0,
     GSYM_UNKNOWN_ADDRESS = 1,       /* no symbol covers the address */
@@ -52,7 +97,7 @@ enum {
     GSYM_TOO_MANY_FRAMES = 14       /* more frames than there is room for */
 };
 
-/* ---- what is asked for: bits of `options` ---- */
+/* ---- what is asked for: bits of `options`. The others are reserved: they refuse nothing, and promise nothing ---- */
 #define GSYM_CODE_INFO 1u /* directory, file and line of the symbol */
 #define GSYM_INLINING 2u  /* the calls inlined at the address; only together with GSYM_CODE_INFO */
 
@@ -109,7 +154,7 @@ GSYM_ASSERT(sizeof(gsym_answer) == 80 && offsetof(gsym_answer, addr) == 8 && off
  * The symbol of an address, with all that `options` ask for.
  *   file, file_len        the bytes of the symbol file
  *   addr                  the address, as the file counts them
- *   options               GSYM_CODE_INFO, GSYM_INLINING, both or 0; other bits are ignored
+ *   options               GSYM_CODE_INFO, GSYM_INLINING, both or 0; other bits are reserved, leave them 0
  *   frames, frames_len    a lent list of records; room is the smaller of 64 and frames_len, and counts all frames of
  *                         the symbol's inline block, one more than there will be records
  * With inlining, frames[0] is the outermost call inlined into the symbol, frames[count - 1] the innermost; the symbol's
@@ -132,16 +177,96 @@ gsym_answer gsym_lookup(const uint8_t *file, size_t file_len, uint64_t addr, uin
 gsym_listed gsym_block_frames(const uint8_t *block, size_t block_len, uint64_t symbol, uint64_t addr,
                               gsym_inline_frame *frames, size_t frames_len);
 
+/* ---- texts: what a tool prints of an address, docs/RULES.md, "What the tools print" ----
+ *
+ * gsym_answer_text, gsym_shown_text and gsym_refusal_text write a text into lent bytes, `room`: its front, as far as it
+ * fits. What is past it in the room stays, no zero byte ends it, and the call says how many bytes the whole text has.
+ * Where these are not more than room_len the text is there; else lend as many and call again, which costs the call once
+ * more: 4,096 bytes hold most answers. A room of 0 bytes asks for the length alone.
+ *
+ * In none of these texts is a byte that steers a terminal, but newlines between lines: control bytes, C1 controls and
+ * marks of direction that stand in a file or in a word are written as a question mark, and escaped in JSON.
+ */
+
+/* How an answer is printed: bits of `view`. The others are reserved: they do nothing, and promise nothing. */
+#define GSYM_VIEW_ADDRESSES 1u          /* the address first */
+#define GSYM_VIEW_FUNCTIONS 2u          /* function names */
+#define GSYM_VIEW_INLINES 4u            /* all frames, from the innermost outwards, and not the innermost alone */
+#define GSYM_VIEW_PRETTY 8u             /* one line a frame */
+#define GSYM_VIEW_BASE_NAMES 16u        /* files without their directories */
+#define GSYM_VIEW_REFUSALS 32u          /* a refusal's number and name in place of ?? */
+#define GSYM_VIEW_JSON 64u              /* one JSON object a line, with all of this: the six bits above do nothing */
+#define GSYM_VIEW_RETURN_ADDRESSES 128u /* looked up is the address before, and shown the one that was given */
+
+/* The number of a word that is no address. No refusal has it, in this library or in a later one. */
+#define GSYM_NO_ADDRESS 255
+
+/* What gsym_answer_text answers. */
+typedef struct gsym_printed {
+    uint64_t len;    /* how many bytes the whole text has, whether or not they fit */
+    uint32_t number; /* 0: the address is known; GSYM_NO_ADDRESS: the word is none; else a refusal's number */
+} gsym_printed;
+
+/* What gsym_address_of answers. */
+typedef struct gsym_number {
+    uint64_t value;     /* the address; 0 where there is none */
+    uint32_t is_number; /* 1: the word is an address; 0: it is none */
+} gsym_number;
+
+GSYM_ASSERT(sizeof(gsym_printed) == 16 && offsetof(gsym_printed, number) == 8, "gsym_printed");
+GSYM_ASSERT(sizeof(gsym_number) == 16 && offsetof(gsym_number, is_number) == 8, "gsym_number");
+
+/*
+ * The answer to one word of a user, as text that ends in a newline: what gsym-addr2line(1) prints of it.
+ *   file, file_len        the bytes of the symbol file
+ *   view                  GSYM_VIEW_*, or 0: the position alone
+ *   base                  where the program was loaded, subtracted from the address first; 0: nothing is
+ *   word, word_len        the word, any bytes, an address or not; all of it is read, white space is not skipped
+ *   room, room_len        the lent bytes
+ * Looked up is with room for 64 frames, and without inlining where neither functions nor inlined calls nor JSON are
+ * asked for: a block that doesn't read refuses no position alone. An address below the base is refused with 1.
+ */
+gsym_printed gsym_answer_text(const uint8_t *file, size_t file_len, uint32_t view, uint64_t base, const uint8_t *word,
+                              size_t word_len, uint8_t *room, size_t room_len);
+
+/* Any bytes (the name of a file, a word) as they may be shown on a terminal, and how many bytes that are. */
+uint64_t gsym_shown_text(const uint8_t *bytes, size_t len, uint8_t *room, size_t room_len);
+
+/* A refusal in words, as gsym_refusal_name has it, and how many bytes these are: 0 where no refusal has the number. */
+uint64_t gsym_refusal_text(uint32_t number, uint8_t *room, size_t room_len);
+
+/*
+ * The first word of some bytes, by its place in them and its length: a length of 0 where there is no word. Blank, tab,
+ * carriage return and newline part words, and no other byte does, not even a zero byte. The next word is the first of
+ * the bytes from place + len on.
+ */
+gsym_text gsym_next_word(const uint8_t *bytes, size_t len);
+
+/* The address that a word is, as gsym_answer_text reads it: hexadecimal, in small or capital digits, with or without 0x
+ * or 0X, of at most 64 bits. */
+gsym_number gsym_address_of(const uint8_t *word, size_t word_len);
+
 /* The version of the library that is linked: compare with GSYM_VERSION. */
 uint32_t gsym_version(void);
 
+/* A string where it stands: never a null pointer, without a zero byte at its end. */
+typedef struct gsym_part {
+    const char *at;
+    size_t len;
+} gsym_part;
+
 /*
- * Where a string stands: a pointer into `file`, of text.len bytes and without a zero byte at its end; a null pointer
- * where place and length don't fit the file.
+ * The bytes of a string of the file, no copy: printf("%.*s", (int)part.len, part.at). An empty part, at an empty string
+ * of this header's, where place and length don't fit the file.
  */
-static inline const char *gsym_text_at(const uint8_t *file, size_t file_len, gsym_text text)
+static inline gsym_part gsym_text_at(const uint8_t *file, size_t file_len, gsym_text text)
 {
-    return text.place <= file_len && text.len <= file_len - text.place ? (const char *)file + text.place : 0;
+    gsym_part part = {"", 0};
+    if (file != 0 && text.place <= file_len && text.len <= file_len - text.place) {
+        part.at = (const char *)file + text.place;
+        part.len = (size_t)text.len;
+    }
+    return part;
 }
 
 /* A refusal in words; a null pointer above 14. */

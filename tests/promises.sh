@@ -2,7 +2,7 @@
 # docs/PROMISES.md says what the sources say. Every public function of a library has an `ensures` and no `requires`, and
 # stands in that page as `crate::name` or `crate::Type::name`; what a row of it gives as a clause of a function, by name
 # and text or by text alone where there is one, is that function's clause word for word; each must-fail edit stands there
-# too. Prints what is missing or otherwise; 1 if anything is.
+# too, of the gate and of tests/more_edits, which have no name twice. Prints what is missing or otherwise; 1 if anything is.
 set -u
 cd "$(dirname "$0")/.." || exit 2
 page=docs/PROMISES.md
@@ -13,8 +13,8 @@ bad=0
 # a line for each clause of a public function: crate::name, which kind, its name, its text; one without any has one line
 for file in crates/*/src/*.rt; do
     crate=$(echo "$file" | cut -d/ -f2)
-    # programs, and the crate that is a caller, promise nothing
-    [ ! -f "crates/$crate/src/main.rt" ] && [ "$crate" != gsym_caller ] || continue
+    # programs promise nothing
+    [ ! -f "crates/$crate/src/main.rt" ] || continue
     awk -v crate="$crate" -v file="$file" '
         function told() {
             if (kind != "") {
@@ -83,12 +83,20 @@ awk -F '\t' -v page="$page" '
     END { print told + 0 >"/dev/stderr"; exit bad }' "$tmp/clauses" "$page" 2>"$tmp/told" || bad=1
 
 edits=0
-for file in crates/*/must-fail/*.edit; do
+more=0
+for file in crates/*/must-fail/*.edit tests/more_edits/*/*.edit; do
     [ -f "$file" ] || continue
-    edits=$((edits + 1))
     name=$(basename "$file" .edit)
+    case $file in
+    crates/*) edits=$((edits + 1)) ;;
+    *)
+        more=$((more + 1))
+        crate=$(basename "$(dirname "$file")")
+        [ ! -f "crates/$crate/must-fail/$name.edit" ] || { echo "$file: crates/$crate/must-fail has one of this name"; bad=1; }
+        ;;
+    esac
     grep -q "\`$name\`" "$page" || { echo "$file: $name is not in $page"; bad=1; }
 done
-[ "$bad" = 0 ] && echo "promises: $(grep -c . <"$tmp/functions") public functions and $edits must-fail edits, all in $page," \
-    "and $(cat "$tmp/told") clauses as the sources have them"
+[ "$bad" = 0 ] && echo "promises: $(grep -c . <"$tmp/functions") public functions, $edits must-fail edits and $more on demand are in" \
+    "$page, and $(cat "$tmp/told") clauses as the sources have them"
 exit "$bad"

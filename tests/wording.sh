@@ -1,8 +1,10 @@
 #!/bin/sh
-# One wording of refusals and one version. The words of crates/gsym_types (`#[error("..")]`) stand for the same number in
-# include/gsym.h (its enum and gsym_refusal_name), in the Rust binding (its text and its page), in the man page, in
-# README.md and in docs/RULES.md ("Refusal numbers"), with the names of the enum where names are given. The version of
-# include/gsym.h is that of gsym_c, of the binding and of the man page. Prints what is otherwise; 1 if anything is.
+# One wording of refusals, one version and one layout. The words of crates/gsym_types (`#[error("..")]`) stand for the
+# same number in include/gsym.h (its enum and gsym_refusal_name), in the Rust binding (its text and its page), in the
+# tools' man pages and in docs/RULES.md ("Refusal numbers"), with the names of the enum where names are given; README.md
+# cites RULES. The version of include/gsym.h is that of gsym_c, of gsym_tool, of the binding and of the man pages, its
+# date that of these, and its layout that of the exports of gsym_c and gsym_text_c, of the shared library and of the
+# binding. Prints what is otherwise; 1 if anything is.
 set -u
 cd "$(dirname "$0")/.." || exit 2
 tmp=$(mktemp -d) || exit 2
@@ -46,7 +48,11 @@ same "gsym_refusal_name of include/gsym.h"
 awk '
     function snake(name) { gsub(/[A-Z]/, "_&", name); return toupper(substr(name, 2)) }
     /^    \/\/\/ / { line = substr($0, 9) }
-    /^    [A-Z][A-Za-z]* = [0-9]+,/ { print $3 + 0 "\t" snake($1) "\t" tolower(substr(line, 1, 1)) substr(line, 2, length(line) - 2) }
+    /^pub enum Refusal / { open = 1 }
+    open && /^}/ { exit }
+    open && /^    [A-Z][A-Za-z]*,$/ {
+        print ++n "\t" snake(substr($1, 1, length($1) - 1)) "\t" tolower(substr(line, 1, 1)) substr(line, 2, length(line) - 2)
+    }
 ' bindings/rust/src/refusal.rs >"$tmp/found"
 same "the page of bindings/rust"
 awk '
@@ -59,14 +65,16 @@ awk '
 same "the text of bindings/rust"
 
 # pages: rows of tables that begin with a number, in the section of the refusals
-sed -n '/^\.SH REFUSALS/,/^\.fi/s/^ *\([0-9][0-9]*\)  \(.*\)$/\1\t\2/p' man/gsym-addr2line.1 |
-    awk -F '\t' 'NR == FNR { name[$1] = $2; next } { print $1 "\t" name[$1] "\t" $2 }' "$tmp/words" - >"$tmp/found"
-same "the man page"
+for page in man/gsym-addr2line.1 man/gsym.1; do
+    sed -n '/^\.SH REFUSALS/,/^\.fi/s/^ *\([0-9][0-9]*\)  \(.*\)$/\1\t\2/p' "$page" |
+        awk -F '\t' 'NR == FNR { name[$1] = $2; next } { print $1 "\t" name[$1] "\t" $2 }' "$tmp/words" - >"$tmp/found"
+    same "$page"
+done
 rows() { # FILE: number, and the other cells
     awk '/^## / { open = $0 == "## Refusal numbers" } open && /^\| *[0-9]+ *\|/' "$1" | sed 's/^| *//; s/ *| */\t/g'
 }
-rows README.md | awk -F '\t' '$1 > 0 { gsub(/`/, "", $2); print $1 "\t" $2 "\t" $3 }' >"$tmp/found"
-same "README.md"
+[ -z "$(rows README.md)" ] || { echo "wording: README.md has a table of refusals, which stands in docs/RULES.md"; bad=1; }
+grep -q 'docs/RULES.md#refusal-numbers' README.md || { echo "wording: README.md doesn't cite the refusals"; bad=1; }
 # in RULES one cell of the row
 rows docs/RULES.md | awk -F '\t' 'NR == FNR { name[$1] = $2; words[$1] = $3; next }
     $1 > 0 { said = $2; for (i = 2; i <= NF; i++) if ($i == words[$1]) said = $i; print $1 "\t" name[$1] "\t" said }' \
@@ -81,9 +89,35 @@ says() { # WHERE WHAT WANTED
     [ "$2" = "$3" ] || { echo "wording: $1 has version '$2', and include/gsym.h has $3"; bad=1; }
 }
 says crates/gsym_c "$(sed -n 's/^const VERSION: u32 = \([0-9_]*\);$/\1/p' crates/gsym_c/src/lib.rt)" "$number"
+tool=$(sed -n 's/^const VERSION: &str = "gsym \(.*\)\\n";$/\1/p' crates/gsym_tool/src/main.rt)
+says crates/gsym_tool "$tool" "$version"
 says bindings/rust/Cargo.toml "$(sed -n 's/^version = "\(.*\)"$/\1/p' bindings/rust/Cargo.toml)" "$version"
 says bindings/rust/Cargo.lock "$(sed -n '/^name = "gsym"$/{n;s/^version = "\(.*\)"$/\1/p;}' bindings/rust/Cargo.lock)" "$version"
-says man/gsym-addr2line.1 "$(sed -n 's/^\.TH .*"gsym \([0-9.]*\)".*/\1/p' man/gsym-addr2line.1)" "$version"
+says bindings/rust "$(sed -n 's/^pub const VERSION: u32 = \([0-9]*\);$/\1/p' bindings/rust/src/library.rs)" "$number"
+dated=$(sed -n 's/^ \* Version [0-9.]* of \([0-9-]*\),.*/\1/p' include/gsym.h)
+[ -n "$dated" ] || { echo "wording: include/gsym.h has no date"; bad=1; }
+for page in man/gsym-addr2line.1 man/gsym.1 man/gsym.3; do
+    says "$page" "$(sed -n 's/^\.TH .*"gsym \([0-9.]*\)".*/\1/p' "$page")" "$version"
+    says "$page" "$(sed -n 's/^\.TH [A-Z0-9-]* [0-9] \([0-9-]*\) .*/\1/p' "$page")" "$dated"
+done
 
-[ "$bad" = 0 ] && echo "wording: $count refusals have one wording in seven places, and version $version stands in five"
+# ---- the layout
+layout=$(sed -n 's/^#define GSYM_LAYOUT \([0-9]*\)$/\1/p' include/gsym.h)
+sed -n 's/^#define \(gsym_[a-z_]*\) \(gsym_[a-z_0-9]*\)$/\1 \2/p' include/gsym.h >"$tmp/mapped"
+while read -r plain linked; do
+    [ "$linked" = "${plain}_$layout" ] || { echo "wording: include/gsym.h maps $plain to $linked"; bad=1; }
+    for where in 'crates/gsym_c/src/*.rt crates/gsym_text_c/src/*.rt' host/gsym.map bindings/rust/src/raw.rs; do
+        # the binding has the calls with records, and no texts
+        case $where:$plain in
+        bindings/*:gsym_lookup | bindings/*:gsym_block_frames) ;;
+        bindings/*) continue ;;
+        esac
+        # shellcheck disable=SC2086
+        cat $where | grep -q "[ \"]$linked[(;\"]" || { echo "wording: $where has no $linked"; bad=1; }
+    done
+done <"$tmp/mapped"
+[ -s "$tmp/mapped" ] || { echo "wording: include/gsym.h maps no call to its layout"; bad=1; }
+grep -q "^LIBGSYM_$layout {" host/gsym.map || { echo "wording: host/gsym.map is of another layout"; bad=1; }
+
+[ "$bad" = 0 ] && echo "wording: $count refusals have one wording in seven places; version $version stands in nine, layout $layout in four"
 exit "$bad"

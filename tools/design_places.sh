@@ -13,15 +13,17 @@ if [ $# -gt 0 ]; then
     cd "$tmp" || exit 2
 fi
 
+# What was written later, in the forms of its day, is left out everywhere: what the tools print.
+later='^crates/gsym_(printed|tool|text_c)/'
 # code PATTERN: the lines of src/ that the pattern finds, comments left out
-code() { grep -rnE "$1" crates/*/src --include='*.rt' | grep -vE '^[^:]*:[0-9]+: *//'; }
-# in_libraries: of these only those of libraries; the replay programs are left out
+code() { grep -rnE "$1" crates/*/src --include='*.rt' | grep -vE '^[^:]*:[0-9]+: *//' | grep -vE "$later"; }
+# in_libraries: of these only those of libraries; the programs and the caller are left out
 in_libraries() { grep -vE '^crates/(reader_cases|lookup_cases|gsym_caller)/'; }
 # functions: FILE:LINE:NAME of every function
 functions() { code '^ *(pub(\([a-z]+\))? )?(const )?(unsafe )?(extern "C" )?fn [a-z]' | sed -E 's/^([^:]*:[0-9]+):.*fn ([a-z0-9_]+).*/\1:\2/'; }
 # types WITHOUT: structs and enums whose derives lack the word
 types() {
-    for file in crates/*/src/*.rt; do
+    for file in $(ls crates/*/src/*.rt | grep -vE "$later"); do
         awk -v file="$file" -v want="$1" '
             /^ *#\[derive/ { derives = derives $0 }
             /^ *(pub(\([a-z]+\))? )?(struct|enum) / { if (derives !~ want) print file ":" FNR ":" $0; derives = "" }
@@ -39,10 +41,15 @@ code '^ *(pub(\([a-z]+\))? )?enum ' | say 1 "own enums"
 for file in crates/*/src/*.rt; do
     awk -v file="$file" '/^ *(pub(\([a-z]+\))? )?enum /{ open = 1 } /^}/ { open = 0 }
         open && /^ +(End|Bad|Unread|Torn|Closed|Refused|Stopped|UsedUp)[(,]/ { print file ":" FNR ":" $0 }' "$file"
-done | in_libraries | say 1 "variants of own enums that say that there is nothing, or why"
-code 'Err\(_\) => (return )?None|Some\([a-z_]+\) => Some\(|else \{ return None; \}' | in_libraries | say 1 "matches that only turn a Result or an Option into another"
+done | grep -vE "$later" | in_libraries | say 1 "variants of own enums that say that there is nothing, or why"
+{
+    code 'Err\(_\) => (return )?None|Some\([a-z_]+\) => Some\('
+    for file in crates/*/src/*.rt; do
+        awk -v file="$file" '/else \{$/ { line = FNR; next } line == FNR - 1 && /^ *return None;$/ { print file ":" line ": else { return None; }" }' "$file"
+    done
+} | in_libraries | say 1 "matches that only turn a Result or an Option into another"
 code '^ *(pub )?[a-z_]+: bool,' | in_libraries | say 1 "fields of structs that are flags"
-code 'Result<.*, u8>|^ *(pub )?number: u(8|32),|const [A-Z_]+: u8 = [0-9]+;' | in_libraries | say 1 "numbers for refusals and kinds: results, fields, constants"
+code 'Result<.*, u8>|^ *(pub )?number: u(8|32),|const [A-Z_]+: u(8|32) = [0-9]+;' | in_libraries | say 1 "numbers for refusals and kinds: results, fields, constants"
 functions | in_libraries | awk -F '[:/]' '{
     name = $NF; gsub(/sixteen|eight|four|two|one|few|many|all|unsigned|signed|frames|records|[0-9]+/, "N", name)
     key = $2 " " name; at[key] = at[key] $0 "\n"; if (!seen[key " " $NF]++) n[key]++ }
@@ -57,6 +64,7 @@ code '\bfor .* in ' | in_libraries | grep -vE 'for [a-z] in [0-9a-z_.]+\.\.' | s
 types Debug | in_libraries | say 4 "types without Debug"
 types PartialEq | in_libraries | say 4 "types without PartialEq and Eq"
 functions | in_libraries | grep -E ':(flag|options_of|answered|answer|fault_number|refused|listing|laid[a-z_]*|lay_[a-z_]+|asked_by|unread|without_row|as_[a-z_]+|of_bits|to_bits|numbers_for)$' | say 4 "conversions as functions of their own"
+code '\bas (u8|u16|u32|u64|usize|i64)\b' | grep -v ' use ' | in_libraries | say 4 "casts by as"
 code '^ *impl.* (PartialEq|Eq|Ord|PartialOrd|Clone|Copy|Default|Hash|Debug|Display)\b.* for ' | in_libraries | say 4 "impls by hand of what can be derived"
 code '^ *requires' | in_libraries | say 5 "requires clauses"
 code '^ *requires.*Within' | say 5 "  of them: the tables lie in the file"
@@ -68,8 +76,8 @@ code '\[0(u32|u64|u8)?; ' | in_libraries | say 6 "buffers of numbers"
 code '_WIDTH' | in_libraries | say 6 "uses of a width of 3 or 7 numbers"
 functions | in_libraries | grep -E ':(halve|near|find_[a-z_]+)$' | say 6 "searches of a sorted list by hand"
 code '\bdyn\b|\bimpl Fn|: fn\(|-> fn\(' | say 7 "closures as parameters, dyn, function pointers"
-code 'match (kind|op|opcode|size|width)\b' | in_libraries | say 7 "matches on which step to run or on a width"
-find crates/*/proofs -name Answers.antt | sort | say 8 "files of answers"
-grep -rhE '^pub [^ ]+ : goal\.' crates/*/proofs --include=Answers.antt | say 8 "answers in them"
-find crates/*/proofs -name Invariants.antt | sort | say 8 "files of invariants"
+code 'match (kind|op|opcode|size|width|ops\[[a-z.]+\])' | in_libraries | say 7 "matches on which step to run or on a width"
+find crates/*/proofs -name Answers.antt | grep -vE "$later" | sort | say 8 "files of answers"
+grep -rE '^pub [^ ]+ : goal\.' crates/*/proofs --include=Answers.antt | grep -vE "$later" | say 8 "answers in them"
+find crates/*/proofs -name Invariants.antt | grep -vE "$later" | sort | say 8 "files of invariants"
 code '#\[tactic\(' | grep -v '#!\[' | say 8 "functions proved by an attribute that names definitions or laws"

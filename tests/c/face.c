@@ -87,8 +87,8 @@ static int rest_kept(const void *at, size_t len)
 
 static int is_text(gsym_text t, const uint8_t *file, size_t file_len, const char *text)
 {
-    const char *at = gsym_text_at(file, file_len, t);
-    return t.len == strlen(text) && at != 0 && memcmp(at, text, t.len) == 0;
+    gsym_part part = gsym_text_at(file, file_len, t);
+    return part.len == t.len && t.len == strlen(text) && memcmp(part.at, text, t.len) == 0;
 }
 
 static int is_none(gsym_text t) { return t.place == 0 && t.len == 0; }
@@ -404,6 +404,7 @@ static void words_and_texts(void)
 {
     static const uint8_t bytes[4] = {'a', 'b', 'c', 'd'};
     gsym_text t;
+    gsym_part part;
     for (uint32_t n = 0; n < 15; n++) {
         CHECK(gsym_refusal_name(n) != 0 && strlen(gsym_refusal_name(n)) > 4);
         for (uint32_t k = 0; k < n; k++)
@@ -414,16 +415,221 @@ static void words_and_texts(void)
         for (uint64_t len = 0; len < 7; len++) {
             t.place = place;
             t.len = len;
-            CHECK(gsym_text_at(bytes, 4, t) == (place + len <= 4 ? (const char *)bytes + place : 0));
+            part = gsym_text_at(bytes, 4, t);
+            /* an empty string has its place too; what doesn't fit is an empty part, and no null pointer */
+            if (place + len <= 4)
+                CHECK(part.at == (const char *)bytes + place && part.len == len);
+            else
+                CHECK(part.len == 0 && part.at != 0 && *part.at == 0);
+            part = gsym_text_at(0, 0, t);
+            CHECK(part.len == 0 && part.at != 0 && *part.at == 0);
         }
     t.place = UINT64_MAX;
     t.len = 2;
-    CHECK(gsym_text_at(bytes, 4, t) == 0);
+    CHECK(gsym_text_at(bytes, 4, t).len == 0 && gsym_text_at(bytes, 4, t).at != 0);
     t.place = 2;
     t.len = UINT64_MAX;
-    CHECK(gsym_text_at(bytes, 4, t) == 0);
+    CHECK(gsym_text_at(bytes, 4, t).len == 0 && gsym_text_at(bytes, 4, t).at != 0);
     CHECK(gsym_version() == GSYM_VERSION);
     CHECK(gsym_version() == 200);
+}
+
+/* ---- texts */
+
+/* A call that writes a text, with a room of each length from 0 to some more than the text has: the front of the text,
+ * the rest of the room as it was, and the length of the whole; and no room at all, by a null pointer. The call has
+ * `room` and `n`. */
+#define EACH_ROOM(text, text_len, call)                                            \
+    do {                                                                           \
+        const char *whole = (text);                                                \
+        size_t whole_len = (text_len), n = 0;                                      \
+        uint8_t *room = 0;                                                         \
+        CHECK((call) == whole_len);                                                \
+        for (n = 0; n <= whole_len + 3; n++) {                                     \
+            room = (uint8_t *)lend_list(n);                                        \
+            size_t written = n < whole_len ? n : whole_len;                        \
+            CHECK((call) == whole_len);                                            \
+            CHECK(memcmp(room, whole, written) == 0 && rest_kept(room, written));  \
+        }                                                                          \
+    } while (0)
+
+static const uint8_t *bytes_of(const char *text)
+{
+    return (const uint8_t *)text;
+}
+
+static const uint8_t *asked_file;
+static size_t asked_len;
+static uint32_t number_seen;
+
+static uint64_t answer_len(uint32_t view, uint64_t base, const char *word, uint8_t *room, size_t room_len)
+{
+    gsym_printed p =
+        gsym_answer_text(asked_file, asked_len, view, base, bytes_of(word), strlen(word), room, room_len);
+    number_seen = p.number;
+    return p.len;
+}
+
+/* The answer to a word, with a room of each length. Bits of the view that have no name change nothing. */
+static void answers(uint32_t view, uint64_t base, const char *word, uint32_t number, const char *text)
+{
+    static const uint32_t unnamed[] = {0, 0x100, 0x80000000, 0xffffff00};
+    for (size_t k = 0; k < sizeof unnamed / sizeof unnamed[0]; k++) {
+        EACH_ROOM(text, strlen(text), answer_len(view | unnamed[k], base, word, room, n));
+        CHECK(number_seen == number);
+    }
+}
+
+#define A GSYM_VIEW_ADDRESSES
+#define F GSYM_VIEW_FUNCTIONS
+#define I GSYM_VIEW_INLINES
+#define P GSYM_VIEW_PRETTY
+#define S GSYM_VIEW_BASE_NAMES
+#define R GSYM_VIEW_REFUSALS
+#define J GSYM_VIEW_JSON
+#define BACK GSYM_VIEW_RETURN_ADDRESSES
+
+static void answer_texts(void)
+{
+    const char *json = "{\"address\":\"0x1005\",\"number\":0,\"start\":\"0x1000\",\"size\":256,\"frames\":["
+                       "{\"name\":\"leaf\",\"directory\":\"/src\",\"file\":\"a.c\",\"line\":12},"
+                       "{\"name\":\"mid\",\"directory\":\"/inc\\ufffd\",\"file\":\"b.h\",\"line\":40},"
+                       "{\"name\":\"outer\",\"directory\":\"/src\",\"file\":\"a.c\",\"line\":30}]}\n";
+    asked_file = lend(sample.at, sample.len, 0);
+    asked_len = sample.len;
+    /* no bit, and each bit */
+    answers(0, 0, "1005", GSYM_FOUND, "/src/a.c:12\n");
+    answers(A, 0, "1005", GSYM_FOUND, "0x0000000000001005\n/src/a.c:12\n");
+    answers(F, 0, "1005", GSYM_FOUND, "leaf\n/src/a.c:12\n");
+    answers(I, 0, "1005", GSYM_FOUND, "/src/a.c:12\n/inc\xff/b.h:40\n/src/a.c:30\n");
+    answers(P, 0, "1005", GSYM_FOUND, "/src/a.c:12\n");
+    answers(S, 0, "1005", GSYM_FOUND, "a.c:12\n");
+    answers(R, 0, "1005", GSYM_FOUND, "/src/a.c:12\n");
+    answers(R, 0, "fff", GSYM_UNKNOWN_ADDRESS, "?1 no symbol covers the address\n");
+    answers(J, 0, "1005", GSYM_FOUND, json);
+    answers(J | A | F | I | P | S | R, 0, "1005", GSYM_FOUND, json);
+    answers(BACK, 0, "1006", GSYM_FOUND, "/src/a.c:12\n");
+    answers(BACK | A, 0, "0x1000", GSYM_UNKNOWN_ADDRESS, "0x0000000000001000\n?" "?:0\n");
+    answers(BACK, 0, "0", GSYM_UNKNOWN_ADDRESS, "?" "?:0\n");
+    /* several bits */
+    answers(A | F | I | P, 0, "1005", GSYM_FOUND,
+            "0x0000000000001005: leaf at /src/a.c:12\n (inlined by) mid at /inc\xff/b.h:40\n"
+            " (inlined by) outer at /src/a.c:30\n");
+    answers(F | P, 0, "fff", GSYM_UNKNOWN_ADDRESS, "?? ?" "?:0\n");
+    answers(F | P, 0, "1101", GSYM_FOUND, "plain at ?" "?:?\n");
+    answers(F, 0, "1101", GSYM_FOUND, "plain\n?" "?:0\n");
+    /* a base: shown is what was given, in JSON too */
+    answers(A | S, 0x500, "1505", GSYM_FOUND, "0x0000000000001505\na.c:12\n");
+    answers(R, 0x500, "4ff", GSYM_UNKNOWN_ADDRESS, "?1 no symbol covers the address\n");
+    answers(J, UINT64_MAX, "0", GSYM_UNKNOWN_ADDRESS,
+            "{\"address\":\"0x0\",\"number\":1,\"refusal\":\"no symbol covers the address\"}\n");
+    /* a word that is no address */
+    answers(0, 0, "10z5", GSYM_NO_ADDRESS, "?" "?:0\n");
+    answers(A | F, 0, " 1005", GSYM_NO_ADDRESS, "??\n??\n?" "?:0\n");
+    answers(A | F | P, 0, "0x", GSYM_NO_ADDRESS, "??: ?? ?" "?:0\n");
+    answers(R, 0, "\x1b[2J", GSYM_NO_ADDRESS, "?? '?[2J' is no address\n");
+    answers(J, 0, "\xe2\x80\xae\"", GSYM_NO_ADDRESS,
+            "{\"address\":null,\"word\":\"\\u202e\\\"\",\"error\":\"no address\"}\n");
+    answers(0, 0, "", GSYM_NO_ADDRESS, "?" "?:0\n");
+    /* null pointers where the length is 0 */
+    EACH_ROOM("?" "?:0\n", 5, gsym_answer_text(asked_file, asked_len, 0, 0, 0, 0, room, n).len);
+    asked_file = 0;
+    asked_len = 0;
+    answers(R, 0, "1005", GSYM_TOO_FEW_BYTES, "?2 the file ends inside its header or a table\n");
+    CHECK(gsym_answer_text(0, 0, 0, 0, 0, 0, 0, 0).number == GSYM_NO_ADDRESS);
+    CHECK(gsym_answer_text(0, 0, 0, 0, 0, 0, 0, 0).len == 5);
+}
+
+/* Every view, at each address of the sample that it says something of: the text is there with just its room, the number
+ * is that of the lookup, and no byte steers. */
+static void every_view(void)
+{
+    static const char *const words[] = {"1005", "1080", "1101", "1200", "fff", "zz"};
+    const uint8_t *file = lend(sample.at, sample.len, 3);
+    for (uint32_t view = 0; view < 256; view++)
+        for (size_t k = 0; k < sizeof words / sizeof words[0]; k++) {
+            const uint8_t *word = bytes_of(words[k]);
+            size_t word_len = strlen(words[k]);
+            gsym_printed p = gsym_answer_text(file, sample.len, view, 0, word, word_len, 0, 0);
+            uint8_t *room = (uint8_t *)lend_list((size_t)p.len);
+            gsym_printed q = gsym_answer_text(file, sample.len, view, 0, word, word_len, room, (size_t)p.len);
+            CHECK(p.len == q.len && p.number == q.number && rest_kept(room, (size_t)q.len));
+            CHECK(q.len > 0 && room[q.len - 1] == '\n');
+            for (size_t i = 0; i < q.len; i++)
+                CHECK(room[i] == '\n' || (room[i] >= 32 && room[i] != 127));
+            gsym_number n = gsym_address_of(word, word_len);
+            uint32_t options = GSYM_CODE_INFO | ((view & (F | I | J)) ? GSYM_INLINING : 0);
+            gsym_frame frames[GSYM_MAX_FRAMES];
+            gsym_answer a = gsym_lookup(file, sample.len, n.value - (view & BACK ? 1 : 0), options, frames,
+                                        GSYM_MAX_FRAMES);
+            CHECK(q.number == (n.is_number ? a.number : GSYM_NO_ADDRESS));
+        }
+}
+
+#undef A
+#undef F
+#undef I
+#undef P
+#undef S
+#undef R
+#undef J
+#undef BACK
+
+static void shown_texts(void)
+{
+    static const char steering[] = "a\x1b" "b\xc2\x85" "c\xe2\x81\xa6\x9f\0\x7f\xa0\xc2\xa0";
+    EACH_ROOM("a?b?c????\xa0\xc2\xa0", 12, gsym_shown_text(bytes_of(steering), sizeof steering - 1, room, n));
+    EACH_ROOM("", 0, gsym_shown_text(0, 0, room, n));
+    EACH_ROOM("", 0, gsym_shown_text(bytes_of("a"), 0, room, n));
+    for (uint32_t k = 1; k < 15; k++)
+        EACH_ROOM(gsym_refusal_name(k), strlen(gsym_refusal_name(k)), gsym_refusal_text(k, room, n));
+    static const uint32_t none[] = {0, 15, 254, GSYM_NO_ADDRESS, 256, 257, 0x10001, UINT32_MAX};
+    for (size_t k = 0; k < sizeof none / sizeof none[0]; k++)
+        EACH_ROOM("", 0, gsym_refusal_text(none[k], room, n));
+}
+
+static void words(void)
+{
+    static const char input[] = " \t\r\nab c\0d\v\xa0\n\n0x1 ";
+    static const struct {
+        size_t place, len;
+    } parted[] = {{4, 2}, {7, 5}, {14, 3}};
+    size_t at = 0, k = 0, len = sizeof input - 1;
+    for (size_t gap = 0; gap < 8; gap++) {
+        const uint8_t *bytes = lend(bytes_of(input), len, gap);
+        for (at = 0, k = 0;; k++) {
+            gsym_text word = gsym_next_word(bytes + at, len - at);
+            if (word.len == 0)
+                break;
+            CHECK(k < 3 && word.len == parted[k].len && at + word.place == parted[k].place);
+            at += (size_t)(word.place + word.len);
+        }
+        CHECK(k == 3);
+    }
+    for (int c = 0; c < 256; c++) {
+        uint8_t byte = (uint8_t)c;
+        int parts = c == ' ' || c == '\t' || c == '\r' || c == '\n';
+        CHECK(gsym_next_word(&byte, 1).len == (parts ? 0 : 1));
+    }
+    CHECK(gsym_next_word(0, 0).len == 0);
+}
+
+static gsym_number address(const char *word) { return gsym_address_of(bytes_of(word), strlen(word)); }
+
+static void addresses(void)
+{
+    static const char *const no[] = {"",   "0x",  "x1", "0x0x1", "-1",       "+1",     " 1",
+                                     "1 ", "0xg", "1_", "1h",    "0x1\xa0", "\xef\xbc\x91", "10000000000000000"};
+    CHECK(address("0").is_number == 1 && address("0").value == 0);
+    CHECK(address("1A").is_number == 1 && address("1A").value == 26);
+    CHECK(address("0X1a").is_number == 1 && address("0X1a").value == 26);
+    CHECK(address("0xFFffFFffFFffFFff").is_number == 1 && address("0xFFffFFffFFffFFff").value == UINT64_MAX);
+    CHECK(address("0x00000000000000000000001005").value == 0x1005);
+    CHECK(gsym_address_of(bytes_of("12"), 1).value == 1);
+    for (size_t k = 0; k < sizeof no / sizeof no[0]; k++)
+        CHECK(address(no[k]).is_number == 0 && address(no[k]).value == 0);
+    CHECK(gsym_address_of(bytes_of("1\0"), 2).is_number == 0);
+    CHECK(gsym_address_of(0, 0).is_number == 0 && gsym_address_of(0, 0).value == 0);
 }
 
 int main(void)
@@ -435,6 +641,11 @@ int main(void)
     if (before == 0)
         return 2;
     words_and_texts();
+    answer_texts();
+    every_view();
+    shown_texts();
+    words();
+    addresses();
     blocks();
     block_refusals();
     every_room();

@@ -19,7 +19,7 @@ typedef struct made {
 static inline void put(made *m, uint64_t value, int bytes)
 {
     for (int i = 0; i < bytes; i++)
-        m->at[m->len++] = (uint8_t)(value >> (8 * i));
+        m->at[m->len++] = (uint8_t)(i < 8 ? value >> (8 * i) : 0);
 }
 
 /* over bytes that are there */

@@ -1,13 +1,16 @@
 #!/bin/sh
 # The C host test: proves and builds the library by `make`, compiles face.c as C and, where there is a C++ compiler, as
-# C++, and stack.c, and runs them. Prints one line; the exit status is 3 where there is nothing to compile them with.
-# CC, CXX and CFLAGS are honoured.
+# C++, stack.c and the example of a crash handler, and runs them; the handler on a stack of just what include/gsym.h
+# asks for. What the archive and the shared library export, and what they take from elsewhere; that a program of the
+# header before doesn't link. face.c once more with sanitizers, where the compiler has them, and with the shared
+# library. Prints one line; the exit status is 3 where there is nothing to compile with. CC, CXX, CFLAGS and LIBGSYM
+# are honoured.
 set -u
 cd "$(dirname "$0")/../.." || exit 2
 cc=${CC:-cc}
 cxx=${CXX:-c++}
 flags="${CFLAGS:--O2} -Wall -Wextra -Werror -Iinclude"
-library=libgsym.a
+library=${LIBGSYM:-libgsym.a}
 command -v "$cc" >/dev/null 2>&1 || { echo "tests/c: not run, this machine has no C compiler '$cc'"; exit 3; }
 command -v make >/dev/null 2>&1 || { echo "tests/c: not run, this machine has no 'make'"; exit 3; }
 machine=$(uname -m)
@@ -21,10 +24,10 @@ fail() {
     exit 1
 }
 
-make $library >"$tmp/all" 2>&1
+make LIBGSYM="$library" "$library" libgsym.so.0 >"$tmp/all" 2>&1
 status=$?
 tail -n 20 "$tmp/all" >"$tmp/log"
-[ "$status" = 0 ] || fail "the library isn't proved"
+[ "$status" = 0 ] || fail "the library isn't proved, or can't be shared"
 # shellcheck disable=SC2086
 "$cc" -std=c11 $flags -o "$tmp/face" tests/c/face.c "$library" >"$tmp/log" 2>&1 || fail "face.c doesn't compile as C"
 # shellcheck disable=SC2086
@@ -40,5 +43,87 @@ if command -v "$cxx" >/dev/null 2>&1; then
     "$tmp/face" >"$tmp/log" 2>&1 || fail "face.c, as C++, failed"
     as="C and C++"
 fi
+# shellcheck disable=SC2086
+if "$cc" -std=c11 $flags -fsanitize=undefined,address -fno-sanitize-recover=all -o "$tmp/face" tests/c/face.c \
+    "$library" >"$tmp/log" 2>&1; then
+    "$tmp/face" >"$tmp/log" 2>&1 || fail "face.c, with sanitizers, failed"
+    as="$as, with sanitizers too,"
+fi
 "$tmp/stack" >"$tmp/log" 2>&1 || fail "stack.c failed"
-echo "tests/c: as $as $said; $(tail -n 1 "$tmp/log")"
+stack=$(tail -n 1 "$tmp/log")
+
+# ---- a crash handler on a stack of just what the header asks for
+# shellcheck disable=SC2086
+"$cc" -std=c11 $flags -o "$tmp/handler" examples/handler.c "$library" >"$tmp/log" 2>&1 ||
+    fail "examples/handler.c doesn't compile"
+handled() { # FILE ADDRESS: what the handler says of it must be standard input
+    cat >"$tmp/want"
+    { "$tmp/handler" "$1" "$2"; echo $? >"$tmp/status"; } 2>"$tmp/said"
+    # the shell says too that it was killed
+    sed '/^Segmentation fault/d' "$tmp/said" >"$tmp/log"
+    cmp -s "$tmp/want" "$tmp/log" || fail "examples/handler.c said otherwise of $2"
+    [ "$(cat "$tmp/status")" -gt 128 ] || fail "examples/handler.c did not die of the signal"
+}
+handled host/sample/connector.gsym 1155 <<'END'
+died in
+  send_request at /src/connector/post.c:35
+  post_order at /src/connector/post.c:18
+  sync_orders at /src/connector/sync.c:44
+END
+handled host/sample/connector.gsym fff <<'END'
+died, and the symbol file has no answer: no symbol covers the address
+END
+# the deepest tree, and one that is too deep, which takes the most stack
+"$tmp/stack" 64 "$tmp/deep" && "$tmp/stack" 65 "$tmp/deeper" || fail "stack.c writes no file"
+{
+    echo "died in"
+    echo "  mid at /src/a.c:12"
+    i=64
+    while [ $i -gt 1 ]; do echo "  mid at /src/a.c:$i"; i=$((i - 1)); done
+} >"$tmp/frames"
+handled "$tmp/deep" 1005 <"$tmp/frames"
+handled "$tmp/deeper" 1005 <<'END'
+died, and the symbol file has no answer: inlined calls on more than 64 levels
+END
+
+# ---- names: a call with records carries the layout, and nothing else is there for hosts
+layout=$(sed -n 's/^#define GSYM_LAYOUT \([0-9]*\)$/\1/p' include/gsym.h)
+sort >"$tmp/want" <<END
+gsym_block_frames_$layout
+gsym_lookup_$layout
+gsym_answer_text_$layout
+gsym_next_word_$layout
+gsym_address_of_$layout
+gsym_shown_text
+gsym_refusal_text
+gsym_version
+END
+if command -v nm >/dev/null 2>&1; then
+    nm -D --defined-only libgsym.so.0 | awk '$2 ~ /^[TDBVW]$/ { sub(/@.*/, "", $3); print $3 }' | sort >"$tmp/log"
+    cmp -s "$tmp/want" "$tmp/log" || fail "libgsym.so.0 exports otherwise"
+    nm "$library" 2>/dev/null | awk '$2 == "T" && $3 ~ /^gsym_/ { print $3 }' | sort >"$tmp/log"
+    cmp -s "$tmp/want" "$tmp/log" || fail "$library has other names for hosts"
+    nm -u "$library" 2>/dev/null | awk '$1 == "U" { print $2 }' | sort -u >"$tmp/log"
+    [ "$(tr '\n' ' ' <"$tmp/log")" = "memcpy memset " ] ||
+        fail "$library takes otherwise from elsewhere than gsym.h says"
+fi
+"$cc" -std=c11 -c -o "$tmp/old.o" tests/c/old.c >"$tmp/log" 2>&1 || fail "old.c doesn't compile"
+for with in "$library" ./libgsym.so.0; do
+    ! "$cc" -o "$tmp/old" "$tmp/old.o" "$with" >"$tmp/log" 2>&1 || fail "a program of an older header links with $with"
+    grep -q 'gsym_lookup' "$tmp/log" || fail "a program of the header before doesn't link with $with for another reason"
+done
+
+# ---- the shared library, by the name that a program asks for
+if command -v readelf >/dev/null 2>&1; then
+    major=$(sed -n 's/^#define GSYM_VERSION_MAJOR \([0-9]*\)$/\1/p' include/gsym.h)
+    soname=$(readelf -d libgsym.so.0 | sed -n 's/.*(SONAME).*\[\(.*\)\]/\1/p')
+    echo "$soname" >"$tmp/log"
+    [ "$soname" = "libgsym.so.$major.$layout" ] || fail "libgsym.so.0 has another soname"
+    cp libgsym.so.0 "$tmp/$soname"
+    # shellcheck disable=SC2086
+    "$cc" -std=c11 $flags -o "$tmp/face" tests/c/face.c "$tmp/$soname" >"$tmp/log" 2>&1 ||
+        fail "face.c doesn't link with the shared library"
+    LD_LIBRARY_PATH=$tmp "$tmp/face" >"$tmp/log" 2>&1 || fail "face.c, with the shared library, failed"
+    as="$as and with the shared library"
+fi
+echo "tests/c: as $as $said; $stack"

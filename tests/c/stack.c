@@ -1,8 +1,9 @@
 /*
  * stack.c - how much stack a call takes: a thread runs it on a stack that was painted before, and what is no longer
- * painted was used. The blocks have 64 levels, and 65, which is refused; of these the first so many are open and the
- * others are passed over, for each number. Prints the largest use of each function, and at how many levels; the exit
- * status is 1 where one is not below what include/gsym.h says.
+ * painted was used. gsym_answer_text is called for each form of text. The blocks have 64 levels, and 65, which is
+ * refused; of these the first so many are open and the others are passed over, for each number. Prints the largest use
+ * of each function, and at how many levels; the exit status is 1 where one is not below what include/gsym.h says.
+ * `stack LEVELS FILE` writes a symbol file whose block has so many levels, all open, at 0x1005.
  */
 #ifndef _DEFAULT_SOURCE
 #define _DEFAULT_SOURCE
@@ -17,13 +18,20 @@
 
 enum { STACK = 1 << 20, PAINT = 0xa5 };
 
-/* what include/gsym.h says of gsym_lookup and gsym_block_frames */
-static const size_t said[2] = {16384, 12288};
+/* what include/gsym.h says of gsym_lookup, gsym_block_frames, gsym_answer_text and the others */
+static const size_t said[4] = {16384, 12288, 24576, 2048};
+/* and by how much GSYM_STACK is more than the largest */
+enum { MARGIN = 8192 };
 
 static made file, block;
 static gsym_frame records[GSYM_MAX_FRAMES];
 static gsym_inline_frame frames[GSYM_MAX_FRAMES];
 static int which;
+static const uint32_t views[] = {GSYM_VIEW_FUNCTIONS | GSYM_VIEW_INLINES | GSYM_VIEW_REFUSALS,
+                                 GSYM_VIEW_ADDRESSES | GSYM_VIEW_INLINES | GSYM_VIEW_PRETTY | GSYM_VIEW_BASE_NAMES,
+                                 GSYM_VIEW_JSON};
+enum { VIEWS = sizeof views / sizeof views[0] };
+static uint32_t view;
 static uint64_t count;
 static uint32_t number;
 static uint8_t *top;
@@ -34,6 +42,18 @@ static void call(void)
         uint32_t options = GSYM_CODE_INFO | GSYM_INLINING;
         gsym_answer a = gsym_lookup(file.at, file.len, 0x1005, options, records, GSYM_MAX_FRAMES);
         count = a.count, number = a.number;
+    } else if (which == 2) {
+        static const uint8_t word[] = "1005";
+        static uint8_t room[65536];
+        number = gsym_answer_text(file.at, file.len, view, 0, word, 4, room, sizeof room).number;
+    } else if (which == 3) {
+        static const uint8_t text[] = "ab\x1b\xc2\x85\xe2\x80\xae\xe2\x80\xf0\x9f\x98\x80 \xff";
+        static uint8_t room[64];
+        const char *name = gsym_refusal_name(GSYM_UNKNOWN_ADDRESS);
+        number = gsym_refusal_text(GSYM_UNKNOWN_ADDRESS, room, sizeof room) != strlen(name) ||
+                 gsym_shown_text(text, sizeof text, room, sizeof room) != 14 ||
+                 gsym_next_word(text, sizeof text).len != 14 || gsym_address_of(text, 2).value != 0xab ||
+                 gsym_version() != GSYM_VERSION;
     } else {
         gsym_listed l = gsym_block_frames(block.at, block.len, 0x1000, 0x1005, frames, GSYM_MAX_FRAMES);
         count = l.count, number = l.number;
@@ -75,28 +95,49 @@ static size_t used(void)
     return bytes;
 }
 
-int main(void)
+static int write_file(int levels, const char *name)
 {
-    size_t most[2] = {0, 0};
-    int at[2] = {0, 0};
+    FILE *out = fopen(name, "wb");
+    put_levels(&block, levels, levels, S_MID);
+    put_file(&file, made_lines, sizeof made_lines, block.at, block.len);
+    return out == 0 || fwrite(file.at, 1, file.len, out) != file.len || fclose(out) != 0;
+}
+
+int main(int argc, char **argv)
+{
+    if (argc == 3)
+        return write_file(atoi(argv[1]), argv[2]);
+    which = 3;
+    size_t most[4] = {0, 0, 0, used()};
+    int at[3] = {0, 0, 0};
+    if (number != 0) {
+        printf("stack.c: a text has another length\n");
+        return 1;
+    }
     for (int levels = 64; levels <= 65; levels++)
         for (int open = 0; open <= levels; open++) {
             block.len = 0;
             put_levels(&block, levels, open, S_MID);
             put_file(&file, made_lines, sizeof made_lines, block.at, block.len);
-            for (which = 0; which < 2; which++) {
+            for (int k = 0; k < 2 + VIEWS; k++) {
+                which = k < 2 ? k : 2;
+                view = k < 2 ? 0 : views[k - 2];
                 size_t bytes = used();
                 if (most[which] < bytes)
                     most[which] = bytes, at[which] = levels;
                 uint64_t want = (uint64_t)(levels > 64 ? 0 : which == 0 && open > 0 ? open - 1 : open);
-                if (number != (levels > 64 ? GSYM_TOO_DEEP : GSYM_FOUND) || count != want) {
+                if (number != (levels > 64 ? GSYM_TOO_DEEP : GSYM_FOUND) || (which < 2 && count != want)) {
                     printf("stack.c: %d of %d levels open gave %d, %d records\n", open, levels, (int)number,
                            (int)count);
                     return 1;
                 }
             }
         }
-    printf("stack: gsym_lookup %zu bytes (%d levels), gsym_block_frames %zu (%d levels), GSYM_STACK %d\n", most[0],
-           at[0], most[1], at[1], GSYM_STACK);
-    return most[0] >= said[0] || most[1] >= said[1] || GSYM_STACK < said[0] + 8192;
+    printf("stack: gsym_lookup %zu bytes (%d levels), gsym_block_frames %zu (%d), gsym_answer_text %zu (%d), "
+           "others %zu, GSYM_STACK %d\n",
+           most[0], at[0], most[1], at[1], most[2], at[2], most[3], GSYM_STACK);
+    for (int k = 0; k < 4; k++)
+        if (most[k] >= said[k] || GSYM_STACK < said[k] + MARGIN)
+            return 1;
+    return 0;
 }

@@ -41,8 +41,9 @@ static int is_utf8(const uint8_t *at, size_t len)
 /* a string of the string table, ended by the zero byte behind it */
 static void check_text(bytes file, gsym_text t, int is_name)
 {
-    const char *at = gsym_text_at(file.at, file.len, t);
-    HOLDS(at != 0, "a text lies within the file");
+    gsym_part part = gsym_text_at(file.at, file.len, t);
+    const char *at = part.at;
+    HOLDS(part.len == t.len && at == (const char *)file.at + t.place, "a text lies within the file");
     HOLDS(file.len >= 28, "a file with a text has a header");
     uint64_t table = number_at(file.at + 20, 4), size = number_at(file.at + 24, 4);
     HOLDS(t.place >= table && t.place - table < size && t.len < size - (t.place - table),

@@ -69,6 +69,8 @@ static gsym_listed harmed_frames(const uint8_t *block, size_t len, uint64_t symb
     return a;
 }
 
+#undef gsym_lookup
+#undef gsym_block_frames
 #define gsym_lookup harmed_lookup
 #define gsym_block_frames harmed_frames
 

@@ -20,8 +20,11 @@ tmp=$(mktemp -d)
 trap 'rm -rf "$tmp"' EXIT
 [ "$new" != . ] || make libgsym.a >"$tmp/rt.log" 2>&1 || { tail -n 20 "$tmp/rt.log"; exit 1; }
 cp "$new/libgsym.a" "$tmp/libgsym.a"
-objcopy --redefine-sym gsym_lookup=old_gsym_lookup --redefine-sym gsym_block_frames=old_gsym_block_frames \
-    --redefine-sym gsym_version=old_gsym_version "$old/libgsym.a" "$tmp/libold.a"
+# before layouts had a number the calls had their plain names
+layout=
+! nm "$old/libgsym.a" | grep -q "T gsym_lookup_2$" || layout=_2
+objcopy --redefine-sym "gsym_lookup$layout=old_gsym_lookup" --redefine-sym gsym_version=old_gsym_version \
+    --redefine-sym "gsym_block_frames$layout=old_gsym_block_frames" "$old/libgsym.a" "$tmp/libold.a"
 rustc --edition 2021 -C opt-level=3 -L "$tmp" -l static=gsym -l static=old -o "$tmp/against" \
     tests/oracle/against/main.rs
 status=0

@@ -1,12 +1,16 @@
 //! What a GSYM symbol file says of an address: the function, its source position, and the calls inlined there.
 //!
 //! The work is done by a library that is proved against its promises; this crate is a thin and safe face of it. Every
-//! call ends, on any bytes, with an answer or with one of fourteen refusals, and takes no heap.
+//! call ends, on any bytes, with an answer or with a refusal. [`lookup`] and [`block_frames`] take no heap;
+//! [`Resolver`] owns a file's bytes and answers in the shape of blazesym.
+//!
+//! An address counts as the file counts it: of an address of a running program subtract where it was loaded, and of a
+//! return address one, since the call stands before it.
 //!
 //! ```
 //! use gsym::{lookup, Frame, Options, Refusal};
 //!
-//! # let path = concat!(env!("CARGO_MANIFEST_DIR"), "/../../host/sample/connector.gsym");
+//! # let path = concat!(env!("CARGO_MANIFEST_DIR"), "/tests/connector.gsym");
 //! let file = std::fs::read(path).unwrap();
 //! let mut frames = [Frame::default(); 64];
 //! let answer = lookup(&file, 0x1155, Options::ALL, &mut frames).unwrap();
@@ -15,12 +19,28 @@
 //! }
 //! assert_eq!(lookup(&file, 1, Options::ALL, &mut frames), Err(Refusal::UnknownAddress));
 //! ```
+//!
+//! Features: `std` (on) has `std::error::Error` for refusals and opens files; `alloc` has [`Resolver`] over bytes; with
+//! neither the crate is `no_std` and takes no heap.
+#![no_std]
 #![deny(missing_docs)]
+#![deny(unsafe_op_in_unsafe_fn)]
 
+#[cfg(feature = "alloc")]
+extern crate alloc;
+#[cfg(feature = "std")]
+extern crate std;
+
+mod library;
 mod raw;
 mod refusal;
+#[cfg(feature = "alloc")]
+mod resolver;
 
+pub use library::{check_library, version, OtherLibrary, VERSION};
 pub use refusal::Refusal;
+#[cfg(feature = "alloc")]
+pub use resolver::{CodeInfo, FindSymOpts, InlinedFn, Reason, ResolvedSym, Resolver};
 
 /// The most frames that a block may have; a longer list is never used further.
 pub const MAX_FRAMES: usize = 64;
@@ -56,17 +76,19 @@ pub struct Text {
 impl Text {
     /// That part of the file itself; empty where place and length don't fit it.
     pub fn bytes<'f>(&self, file: &'f [u8]) -> &'f [u8] {
-        let start = usize::try_from(self.place).ok();
-        let len = usize::try_from(self.len).ok();
-        start
-            .zip(len)
-            .and_then(|(start, len)| file.get(start..start.checked_add(len)?))
-            .unwrap_or(&[])
+        self.part(file).unwrap_or(&[])
     }
 
-    /// The same as text: names are UTF-8 in the file that they were answered for, other strings need not be.
+    fn part<'f>(&self, file: &'f [u8]) -> Option<&'f [u8]> {
+        let start = usize::try_from(self.place).ok()?;
+        let len = usize::try_from(self.len).ok()?;
+        file.get(start..start.checked_add(len)?)
+    }
+
+    /// The same as text, none where it doesn't fit the file or is not UTF-8: names are, in the file that they were
+    /// answered for, and other strings need not be.
     pub fn str<'f>(&self, file: &'f [u8]) -> Option<&'f str> {
-        std::str::from_utf8(self.bytes(file)).ok()
+        core::str::from_utf8(self.part(file)?).ok()
     }
 }
 
@@ -136,8 +158,8 @@ pub struct Call<'f> {
 }
 
 impl Answer {
-    /// The functions at the address, from the innermost inlined call outwards; the symbol itself is the last. `file` and
-    /// `frames` are those of the lookup.
+    /// The functions at the address, from the innermost inlined call outwards; the symbol itself is the last. `file`
+    /// and `frames` are those of the lookup.
     pub fn calls<'f, 'a>(&self, file: &'f [u8], frames: &'a [Frame]) -> impl Iterator<Item = Call<'f>> + 'a
     where
         'f: 'a,
@@ -155,15 +177,15 @@ impl Answer {
             file: answer.position.map_or(&[], |p| p.file.bytes(file)),
             line: answer.position.map(|p| p.line),
         };
-        inner.chain(std::iter::once(symbol))
+        inner.chain(core::iter::once(symbol))
     }
 }
 
 /// The symbol of an address, with all that `options` ask for.
 ///
-/// Records of inlined calls go to the front of `frames`, the outermost first; room is the smaller of 64 and its length, and
-/// counts all frames of the symbol's inline block, one more than there will be records. A refusal changes none, nor does a
-/// lookup without inlining, and what is past the count stays.
+/// Records of inlined calls go to the front of `frames`, the outermost first; room is the smaller of 64 and its length,
+/// and counts all frames of the symbol's inline block, one more than there will be records. A refusal changes none, nor
+/// does a lookup without inlining, and what is past the count stays.
 #[inline]
 pub fn lookup(file: &[u8], addr: u64, options: Options, frames: &mut [Frame]) -> Result<Answer, Refusal> {
     let bits = u32::from(options.code_info) | u32::from(options.inlining) << 1;
@@ -176,15 +198,18 @@ pub fn lookup(file: &[u8], addr: u64, options: Options, frames: &mut [Frame]) ->
             size: r.size,
             name: r.name,
             position: (r.has_code != 0).then_some(Position { dir: r.dir, file: r.file, line: r.line }),
-            count: r.count as usize,
+            // a library can't have written more than there is room for
+            count: frames.len().min(r.count as usize),
         }),
     }
 }
 
-/// The frames of a single inline block, for the symbol that it belongs to: how many were written to the front of `frames`.
+/// The frames of a single inline block, for the symbol that it belongs to: how many were written to the front of
+/// `frames`.
 ///
-/// They are the named nodes that contain the address and whose ancestors all contain it, each once, parents first, in the
-/// file's order. Room is the smaller of 64 and the list's length; a refusal changes none, and what is past the count stays.
+/// They are the named nodes that contain the address and whose ancestors all contain it, each once, parents first, in
+/// the file's order. Room is the smaller of 64 and the list's length; a refusal changes none, and what is past the
+/// count stays.
 ///
 /// ```
 /// let block = [1, 0, 0x20, 1, 1, 0, 0, 0, 0, 0, 1, 4, 8, 0, 5, 0, 0, 0, 1, 10, 0];
@@ -199,12 +224,6 @@ pub fn block_frames(block: &[u8], symbol: u64, addr: u64, frames: &mut [InlineFr
     };
     match Refusal::of(r.number) {
         Some(refusal) => Err(refusal),
-        None => Ok(r.count as usize),
+        None => Ok(frames.len().min(r.count as usize)),
     }
-}
-
-/// The version of the library that is linked: major * 10000 + minor * 100 + patch.
-pub fn version() -> u32 {
-    // SAFETY: the call takes nothing.
-    unsafe { raw::gsym_version() }
 }

@@ -1,5 +1,7 @@
-//! The library as include/gsym.h has it.
+//! The library as include/gsym.h has it, layout 2: a library of another layout has no calls of these names, so that
+//! nothing is linked that would write other records.
 use super::{Frame, InlineFrame, Text};
+use core::mem::size_of;
 
 #[repr(C)]
 pub struct RawAnswer {
@@ -20,10 +22,12 @@ pub struct RawListed {
     pub number: u32,
 }
 
+const _: () = assert!(size_of::<usize>() == 8);
 const _: () = assert!(size_of::<RawAnswer>() == 80 && size_of::<RawListed>() == 16);
 const _: () = assert!(size_of::<Frame>() == 56 && size_of::<InlineFrame>() == 12 && size_of::<Text>() == 16);
 
 extern "C" {
+    #[link_name = "gsym_lookup_2"]
     pub fn gsym_lookup(
         file: *const u8,
         file_len: usize,
@@ -33,6 +37,7 @@ extern "C" {
         frames_len: usize,
     ) -> RawAnswer;
 
+    #[link_name = "gsym_block_frames_2"]
     pub fn gsym_block_frames(
         block: *const u8,
         block_len: usize,

@@ -1,42 +1,44 @@
-use std::error::Error;
-use std::fmt;
+use core::fmt;
 
 /// Why a call gave no answer; the numbers are those of the C face.
-#[repr(u8)]
+#[non_exhaustive]
 #[derive(Clone, Copy, Debug, PartialEq, Eq, Hash, PartialOrd, Ord)]
 pub enum Refusal {
     /// No symbol covers the address.
-    UnknownAddress = 1,
+    UnknownAddress,
     /// The file ends inside its header or a table.
-    TooFewBytes = 2,
+    TooFewBytes,
     /// Not a GSYM file, or one of the other byte order.
-    WrongMagic = 3,
+    WrongMagic,
     /// A version other than 1.
-    WrongVersion = 4,
+    WrongVersion,
     /// The symbol's information doesn't read.
-    UnreadInfo = 5,
+    UnreadInfo,
     /// The name of the symbol or of an inlined call doesn't read, or is not UTF-8.
-    UnreadName = 6,
+    UnreadName,
     /// A file index that is not below the file count.
-    UnknownFile = 7,
+    UnknownFile,
     /// A directory or a file name doesn't read.
-    UnreadPath = 8,
+    UnreadPath,
     /// The header of a line table doesn't read.
-    UnreadLineHeader = 9,
+    UnreadLineHeader,
     /// An inline block doesn't read.
-    UnreadInline = 10,
+    UnreadInline,
     /// An inline range starts or ends above 2^64-1.
-    InlineSumTooLarge = 11,
+    InlineSumTooLarge,
     /// A call file above 4,294,967,295.
-    CallFileTooLarge = 12,
+    CallFileTooLarge,
     /// Inlined calls on more than 64 levels.
-    TooDeep = 13,
+    TooDeep,
     /// More frames than there is room for.
-    TooManyFrames = 14,
+    TooManyFrames,
+    /// One that this crate has no name for, by its number: from a library that is newer than the crate.
+    #[non_exhaustive]
+    Other(u32),
 }
 
 impl Refusal {
-    /// Every refusal, by its number.
+    /// Every refusal that has a name, by its number: the first is 1.
     pub const ALL: [Refusal; 14] = [
         Refusal::UnknownAddress,
         Refusal::TooFewBytes,
@@ -55,17 +57,17 @@ impl Refusal {
     ];
 
     /// The refusal of a number, none for 0.
-    ///
-    /// # Panics
-    ///
-    /// Above 14, which no call answers.
     pub(crate) fn of(number: u32) -> Option<Refusal> {
-        (number != 0).then(|| Refusal::ALL[number as usize - 1])
+        let place = number.checked_sub(1)?;
+        Some(*Refusal::ALL.get(place as usize).unwrap_or(&Refusal::Other(number)))
     }
 
-    /// Its number, 1 to 14.
-    pub fn number(self) -> u8 {
-        self as u8
+    /// Its number, from 1 on.
+    pub fn number(self) -> u32 {
+        match self {
+            Refusal::Other(number) => number,
+            named => Refusal::ALL.iter().position(|r| *r == named).map_or(0, |place| place as u32 + 1),
+        }
     }
 
     /// It in words, as its `Display` and the page of the C face have it.
@@ -85,14 +87,35 @@ impl Refusal {
             Refusal::CallFileTooLarge => "a call file above 4,294,967,295",
             Refusal::TooDeep => "inlined calls on more than 64 levels",
             Refusal::TooManyFrames => "more frames than there is room for",
+            Refusal::Other(_) => "a refusal of a later library",
         }
     }
 }
 
 impl fmt::Display for Refusal {
     fn fmt(&self, f: &mut fmt::Formatter<'_>) -> fmt::Result {
-        f.write_str(self.text())
+        match self {
+            Refusal::Other(number) => write!(f, "{}, number {}", self.text(), number),
+            _ => f.write_str(self.text()),
+        }
     }
 }
 
-impl Error for Refusal {}
+#[cfg(feature = "std")]
+impl std::error::Error for Refusal {}
+
+#[cfg(test)]
+mod tests {
+    use super::Refusal;
+
+    #[test]
+    fn every_number_is_a_refusal_and_kept() {
+        assert_eq!(Refusal::of(0), None);
+        for number in (1..100).chain([u32::MAX]) {
+            let refusal = Refusal::of(number).unwrap();
+            assert_eq!(refusal.number(), number);
+            assert_eq!(matches!(refusal, Refusal::Other(_)), number > 14);
+            assert!(!refusal.text().is_empty());
+        }
+    }
+}

@@ -1,8 +1,8 @@
 //! The safe face on the sample file, on torn prefixes of it, and on the marked examples of RULES.
-use gsym::{block_frames, lookup, version, Frame, InlineFrame, Options, Refusal, Text};
+use gsym::{block_frames, check_library, lookup, version, Frame, InlineFrame, Options, Refusal, Text, VERSION};
 
 fn sample() -> Vec<u8> {
-    std::fs::read(concat!(env!("CARGO_MANIFEST_DIR"), "/../../host/sample/connector.gsym")).unwrap()
+    std::fs::read(concat!(env!("CARGO_MANIFEST_DIR"), "/tests/connector.gsym")).unwrap()
 }
 
 const MARK: Frame =
@@ -85,9 +85,31 @@ fn marked_examples() {
 #[test]
 fn refusals_have_their_numbers() {
     for (i, r) in Refusal::ALL.iter().enumerate() {
-        assert_eq!(usize::from(r.number()), i + 1);
+        assert_eq!(r.number() as usize, i + 1);
         assert!(!r.text().is_empty());
     }
     assert_eq!(Refusal::TooDeep.to_string(), "inlined calls on more than 64 levels");
-    assert_eq!(version(), 200);
+    assert_eq!((version(), version(), VERSION), (200, 200, 200));
+    assert_eq!(check_library(), Ok(()));
+}
+
+#[test]
+fn texts_that_fit_and_that_do_not() {
+    let bytes = b"abcd";
+    for place in 0..7 {
+        for len in 0..7 {
+            let part = Text { place, len }.bytes(bytes);
+            if place + len <= 4 {
+                assert_eq!(part, &bytes[place as usize..(place + len) as usize]);
+                assert_eq!(part.as_ptr(), bytes[place as usize..].as_ptr());
+            } else {
+                assert_eq!((part, Text { place, len }.str(bytes)), (&b""[..], None));
+            }
+        }
+    }
+    for text in [Text { place: u64::MAX, len: 2 }, Text { place: 2, len: u64::MAX }] {
+        assert_eq!((text.bytes(bytes), text.str(bytes)), (&b""[..], None));
+    }
+    assert_eq!(Text { place: 0, len: 0 }.str(&[]), Some(""));
+    assert_eq!(Text { place: 0, len: 1 }.str(b"\xff"), None);
 }

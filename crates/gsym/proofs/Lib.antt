@@ -3,3 +3,5 @@ mod Over
 mod Written
 mod Promised
 mod SingleBlock
+mod Named
+pub mod Numbers

@@ -1,15 +1,25 @@
 -- What `lookup` promises follows from its equation with the definition, and from what it leaves of the list.
 -- Assumes nothing.
-use Rattle.std.proofs.Common.{◌≡◌, ◌∙◌, ap, sym, ℕ, ◌⊎◌, ◌&&◌, false, Ok, Err, Result, IfOk, OnErr, List, [], length, length-take, take, drop, arith}
+use Rattle.std.proofs.Common.{◌≡◌, ◌↔◌, ◌∙◌, ap, sym, refl, ℕ, ◌⊎◌, ◌&&◌, false, Ok, Err, Result, IsOk, IfOk, OnErr, List, [], length, length-take, take, drop, arith}
+use Rattle.std.specs.Result.{IsErrOf}
 use Rattle.gsym_types.specs.declared.Address.{Address}
 use Rattle.gsym_types.specs.declared.Answer.{Answer}
 use Rattle.gsym_types.specs.declared.Frame.{Frame}
 use Rattle.gsym_types.specs.declared.Options.{Options}
 use Rattle.gsym_types.specs.declared.Refusal.{Refusal}
 use Rattle.gsym_resolver.specs.Lookup.{lookup_of, looked_up, plain_options}
+use Rattle.gsym_resolver.specs.Met.{Met}
 use Rattle.gsym_resolver.proofs.Unasked.{lookup_unasked}
 use Rattle.gsym_resolver.proofs.Calls.{call_refused, call_blocks, call_answered, call_listed, call_covers, call_below, call_count}
 use Rattle.gsym.specs.Lookups.{room_in, records_in, MeetsLookup}
+use Rattle.gsym.proofs.Named.{lookup_named}
+
+-- refused exactly where a condition is met, there is an answer exactly where none is
+answered_unmet :
+    (result : Result Answer Refusal) (M : Refusal → Type 0) → ((r : Refusal) → IsErrOf result r ↔ M r) →
+    IsOk result ↔ ((r : Refusal) → M r → ⊥)
+answered_unmet (Ok a) M h = (λ _ r m. let e = (h r).1 m in cc, λ _. refl)
+answered_unmet (Err r) M h = (λ e. absurd cc, λ none. absurd (none r ((h r).0 refl)))
 
 pub promised :
     (file : List ℕ) (addr : Address) (o : Options) (result : Result Answer Refusal) (old new : List Frame) →
@@ -19,13 +29,18 @@ pub promised :
 promised file addr o (Ok a) old new e stays kept bare =
     let room = room_in old in
     let count : a.count ≡ length (take a.count new) = call_count file addr o room (Ok a) (take a.count new) e in
+    let refused = call_refused file addr o room (Ok a) (take a.count new) e in
+    let named = lookup_named file addr o room (record { answer = a; frames = take a.count new }) (sym e) in
     record {
-      refused = call_refused file addr o room (Ok a) (take a.count new) e;
+      refused = refused;
+      unmet = answered_unmet (Ok a) (Met file addr o room) refused;
       blocks = tt;
       answered = call_answered file addr o room (Ok a) (take a.count new) e;
       listed = λ l. call_listed file addr o room (Ok a) (take a.count new) e (omega (arith, count));
       covered = call_covers file addr o room (Ok a) (take a.count new) e;
       below = call_below file addr o room (Ok a) (take a.count new) e;
+      name = named.0;
+      names = named.1;
       within = omega (arith, count, length-take a.count new);
       stays = stays;
       kept = kept;
@@ -34,13 +49,17 @@ promised file addr o (Ok a) old new e stays kept bare =
     }
 promised file addr o (Err r) old new e stays kept bare =
     let room = room_in old in
+    let refused = call_refused file addr o room (Err r) [] e in
     record {
-      refused = call_refused file addr o room (Err r) [] e;
+      refused = refused;
+      unmet = answered_unmet (Err r) (Met file addr o room) refused;
       blocks = call_blocks file addr o room (Err r) [] e;
       answered = tt;
       listed = tt;
       covered = tt;
       below = tt;
+      name = tt;
+      names = tt;
       within = tt;
       stays = tt;
       kept = kept;

@@ -1,6 +1,6 @@
 -- What a lookup leaves in the list that is lent to it, and what it promises.
 -- Assumes nothing.
-use Rattle.std.specs.Prelude.{◌≡◌, ◌↔◌, ◌≤◌, ◌<◌, ◌⊎◌, ℕ, min, Bool, true, false, List, [], length, take, drop, Result, Ok, Err, IfOk, IfErr, OnErr}
+use Rattle.std.specs.Prelude.{◌≡◌, ◌↔◌, ◌≤◌, ◌<◌, ◌⊎◌, ℕ, min, Bool, true, false, List, [], length, take, drop, All, Result, Ok, Err, IsOk, IfOk, IfErr, OnErr}
 use Rattle.std.specs.Result.{IsErrOf}
 use Rattle.gsym_types.specs.declared.Address.{Address}
 use Rattle.gsym_types.specs.declared.Answer.{Answer}
@@ -14,6 +14,7 @@ use Rattle.gsym_resolver.specs.Lookup.{LookedUp, lookup_of, looked_up}
 use Rattle.gsym_resolver.specs.Met.{Met}
 use Rattle.gsym_resolver.specs.Answered.{Answered}
 use Rattle.gsym_resolver.specs.Blocks.{RefusedByBlock, Listed}
+use Rattle.gsym.specs.Names.{IsNameIn}
 
 -- how many frames there is room for in a list
 abbrev pub room_in : List Frame → ℕ
@@ -38,11 +39,14 @@ has_too_many (Ok a) = false
 -- after
 pub record MeetsLookup (file : List ℕ) (addr : Address) (o : Options) (result : Result Answer Refusal) (old new : List Frame) : Type 0 where
   pub refused : (r : Refusal) → IsErrOf result r ↔ Met file addr o (room_in old) r
+  pub unmet : IsOk result ↔ ((r : Refusal) → Met file addr o (room_in old) r → ⊥)
   pub blocks : IfErr result (λ r. 10 ≤ number_of r → RefusedByBlock file addr o (room_in old) r)
   pub answered : IfOk result (λ a. Answered file addr o (room_in old) (with_records a new))
   pub listed : IfOk result (λ a. 0 < a.count → Listed file addr o (room_in old) (with_records a new))
   pub covered : IfOk result (λ a. covered_by addr a.addr a.size ≡ true)
   pub below : IfOk result (λ a. a.addr.0 ≤ addr.0)
+  pub name : IfOk result (λ a. IsNameIn file a.name)
+  pub names : IfOk result (λ a. All (λ f. IsNameIn file f.name) (take a.count new))
   pub within : IfOk result (λ a. a.count ≤ length new)
   pub stays : IfOk result (λ a. drop a.count new ≡ drop a.count old)
   pub kept : OnErr result (new ≡ old)

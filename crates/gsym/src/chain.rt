@@ -5,18 +5,23 @@ ghost use Rattle.gsym.specs.CallOrder.{calls_in_order, calls_left};
 
 use gsym_types::{Answer, Frame, Position, Text};
 
-/// A function in which execution was at the address: its name, and the position that it had reached in it. A call inlined
-/// there always has one; the symbol has none where none is known.
+/// A function in which execution was at the address (RULES, "Putting the answer together").
 #[derive(Clone, Copy, Debug, PartialEq, Eq, Default, Hash)]
 pub struct Call {
+    /// Its name, which is UTF-8.
     pub name: Text,
+    /// The position that execution had reached in it. A call inlined there always has one; the symbol has none where none
+    /// is known.
     pub position: Option<Position>,
 }
 
-/// The calls that are still to come: those of the records, the last record first, and then the symbol.
-#[derive(Clone, Copy, Debug, PartialEq, Eq, Hash)]
+/// The calls that are still to come: those of the records, the last record first, and then the symbol (RULES, "Putting
+/// the answer together").
+#[derive(Clone, Copy, Debug, PartialEq, Eq, Default, Hash)]
 pub struct CallChain<'a> {
+    /// The records that are still to come.
     pub records: &'a [Frame],
+    /// The symbol, while it is still to come.
     pub symbol: Option<Call>,
 }
 

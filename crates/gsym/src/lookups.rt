@@ -1,6 +1,6 @@
 //! The symbol of an address, with all that is asked for, into a list that the caller lends (RULES, from "Header and
 //! tables" to "Putting the answer together").
-ghost use Rattle.std.specs.Prelude.{◌≡◌, ◌↔◌, ◌≤◌, ◌<◌, ◌⊎◌, false, true, min, length, drop, IfOk, IfErr, OnErr, IsErrOf};
+ghost use Rattle.std.specs.Prelude.{◌≡◌, ◌↔◌, ◌≤◌, ◌<◌, ◌⊎◌, false, true, min, length, take, drop, All, IsOk, IfOk, IfErr, OnErr, IsErrOf};
 ghost use Rattle.gsym_types.specs.declared.Refusal.{Refusal};
 ghost use Rattle.gsym_types.specs.Refusal.{number_of};
 ghost use Rattle.gsym_parser.specs.Entries.{covered_by};
@@ -9,6 +9,7 @@ ghost use Rattle.gsym_resolver.specs.Met.{Met};
 ghost use Rattle.gsym_resolver.specs.Answered.{Answered};
 ghost use Rattle.gsym_resolver.specs.Blocks.{RefusedByBlock, Listed};
 ghost use Rattle.gsym.specs.Lookups.{room_in, records_in, with_records, has_too_many};
+ghost use Rattle.gsym.specs.Names.{IsNameIn};
 
 use arrayvec::ArrayVec;
 use gsym_types::{Address, Answer, Frame, MAX_FRAMES, Options, Refusal};
@@ -27,6 +28,9 @@ pub fn lookup(
     // Refused exactly where its condition is met, of several the first in the order of RULES.
     ensures refused { (r : Refusal) → IsErrOf result r
         ↔ Met file.now addr options (room_in frames.old) r }
+    // There is an answer exactly where no condition is met.
+    ensures unmet { IsOk result
+        ↔ ((r : Refusal) → Met file.now addr options (room_in frames.old) r → ⊥) }
     // A refusal from 10 on is the first fault of one of the entry's blocks, the first that doesn't list none.
     ensures blocks { IfErr result (λ r. 10 ≤ number_of r
         → RefusedByBlock file.now addr options (room_in frames.old) r) }
@@ -39,6 +43,9 @@ pub fn lookup(
     // The symbol covers the address, and isn't above it.
     ensures covered { IfOk result (λ a. covered_by addr a.addr a.size ≡ true) }
     ensures below { IfOk result (λ a. a.addr.0 ≤ addr.0) }
+    // Its name is UTF-8 in the file, and so is that of each record.
+    ensures name { IfOk result (λ a. IsNameIn file.now a.name) }
+    ensures names { IfOk result (λ a. All (λ f. IsNameIn file.now f.name) (take a.count frames.new)) }
     // What is written lies in the list, and nothing else changes.
     ensures within { IfOk result (λ a. a.count ≤ length frames.new) }
     ensures stays { IfOk result (λ a. drop a.count frames.new ≡ drop a.count frames.old) }

@@ -20,7 +20,7 @@ use Rattle.gsym_resolver.specs.Blocks.{RefusedByBlock}
 use Rattle.gsym.specs.Lookups.{room_in, records_in, MeetsLookup}
 use Rattle.gsym_c.specs.declared.GsymListed.{GsymListed}
 use Rattle.gsym_c.specs.Laid.{address, with_position, answered, answer_in, listed}
-use Rattle.gsym_c.proofs.Numbers.{number_range, number_same}
+use Rattle.gsym.proofs.Numbers.{number_range, number_same}
 
 module _ (symbol addr room : ℕ) (bytes : List ℕ) (result : Result ℕ Refusal) (g : GsymListed) (laid : g ≡ listed result) where
   pub told_listed :

@@ -2,7 +2,7 @@
 //! definitions alone.
 ghost use Rattle.gsym_c.specs.Examples.{OptionBits};
 
-/// What the bits ask for: bit 0 for code info, bit 1 for inlining, others for nothing.
+/// What the bits ask for: bit 0 for code info, bit 1 for inlining, others for nothing (RULES, "Calls").
 pub fn option_bits()
     ensures { OptionBits }
 {}

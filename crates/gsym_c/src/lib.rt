@@ -1,6 +1,7 @@
 //! What C hosts call; include/gsym.h is their manual. Each function hands its arguments on to `gsym`, and lays the answer
 //! out as C has it: a number in place of a refusal, and zeros where there is nothing. The records of the lent list are
-//! laid out so already.
+//! laid out so already. A call that hands records or an answer over has the number of their layout in its name, so that
+//! an object compiled for another layout doesn't link; the header maps the plain names to these.
 #![tactic(auto)]
 
 mod laws;
@@ -26,37 +27,49 @@ pub use laws::option_bits;
 /// The version, 0.2.0, as include/gsym.h counts it.
 const VERSION: u32 = 200;
 
-/// What a lookup answers, as C has it. The number is 0 where there is an answer, and else that of the refusal; every
-/// other field is then 0. A text is its place, counted from the file's start, and its length, both in bytes; without a
-/// position `has_code` is 0, and line, directory and file are.
+/// What a lookup answers, as C has it (RULES, "Calls"). Every field but the number is 0 where that is not.
 #[repr(C)]
 #[derive(Clone, Copy, Debug, PartialEq, Eq, Default, Hash)]
 pub struct GsymAnswer {
+    /// 0 where there is an answer, and else the number of the refusal.
     pub number: u32,
+    /// 1 where there is a position; else 0, and line, directory and file are 0 too.
     pub has_code: u32,
+    /// Where the symbol starts.
     pub addr: u64,
+    /// Its size in bytes, 0 where it covers everything from its start on.
     pub size: u32,
+    /// The line.
     pub line: u32,
+    /// Where the symbol's name starts, in bytes from the start of the file.
     pub name_place: u64,
+    /// How many bytes it has.
     pub name_len: u64,
+    /// Where the directory starts, counted alike.
     pub dir_place: u64,
+    /// How many bytes it has.
     pub dir_len: u64,
+    /// Where the name of the source file starts, counted alike.
     pub file_place: u64,
+    /// How many bytes it has.
     pub file_len: u64,
+    /// How many records were written to the front of the lent list.
     pub count: u64,
 }
 
-/// What reading a block answers, as C has it: how many frames, and number 0; or the number of the refusal, and none.
+/// What reading a block answers, as C has it (RULES, "Inline tree").
 #[repr(C)]
 #[derive(Clone, Copy, Debug, PartialEq, Eq, Default, Hash)]
 pub struct GsymListed {
+    /// How many frames were written to the front of the lent list, 0 where the block is refused.
     pub count: u64,
+    /// 0 where the block reads, and else the number of the refusal.
     pub number: u32,
 }
 
 // ---- lookup
 
-// What the bits ask for, which are C's.
+// What the bits ask for, which are C's. No `From`: `Options` and `u32` are both foreign here.
 fn asked_by(bits: u32) -> Options
     ensures { result ≡ options_of bits }
 {
@@ -66,43 +79,44 @@ fn asked_by(bits: u32) -> Options
     }
 }
 
-// An answer as C has it.
-fn lay_out(answer: Result<Answer, Refusal>) -> GsymAnswer
-    ensures { result ≡ answered answer }
-{
-    match answer {
-        Ok(found) => {
-            let has_code = found.position.is_some() as u32;
-            let position = found.position.unwrap_or_default();
-            GsymAnswer {
-                number: 0,
-                has_code,
-                addr: found.addr.0,
-                size: found.size,
-                line: position.line.0,
-                name_place: found.name.place as u64,
-                name_len: found.name.len as u64,
-                dir_place: position.dir.place as u64,
-                dir_len: position.dir.len as u64,
-                file_place: position.file.place as u64,
-                file_len: position.file.len as u64,
-                count: found.count as u64,
+impl From<Result<Answer, Refusal>> for GsymAnswer {
+    ghost from_gives = { λ answer laid. laid ≡ answered answer };
+
+    fn from(answer: Result<Answer, Refusal>) -> GsymAnswer {
+        match answer {
+            Ok(found) => {
+                let has_code = found.position.is_some() as u32;
+                let position = found.position.unwrap_or_default();
+                GsymAnswer {
+                    number: 0,
+                    has_code,
+                    addr: found.addr.0,
+                    size: found.size,
+                    line: position.line.0,
+                    name_place: found.name.place as u64,
+                    name_len: found.name.len as u64,
+                    dir_place: position.dir.place as u64,
+                    dir_len: position.dir.len as u64,
+                    file_place: position.file.place as u64,
+                    file_len: position.file.len as u64,
+                    count: found.count as u64,
+                }
             }
+            Err(refusal) => GsymAnswer {
+                number: refusal.number() as u32,
+                has_code: 0,
+                addr: 0,
+                size: 0,
+                line: 0,
+                name_place: 0,
+                name_len: 0,
+                dir_place: 0,
+                dir_len: 0,
+                file_place: 0,
+                file_len: 0,
+                count: 0,
+            },
         }
-        Err(refusal) => GsymAnswer {
-            number: refusal.number() as u32,
-            has_code: 0,
-            addr: 0,
-            size: 0,
-            line: 0,
-            name_place: 0,
-            name_len: 0,
-            dir_place: 0,
-            dir_len: 0,
-            file_place: 0,
-            file_len: 0,
-            count: 0,
-        },
     }
 }
 
@@ -111,7 +125,7 @@ fn lay_out(answer: Result<Answer, Refusal>) -> GsymAnswer
 /// it has places, and for 64 at most. Written are exactly the records; a refusal (1 to 14) writes none, and without both
 /// bits the list isn't touched, nor is space for records filled (RULES, "Calls").
 #[unsafe(no_mangle)]
-pub extern "C" fn gsym_lookup(
+pub extern "C" fn gsym_lookup_2(
     file: &[u8],
     addr: u64,
     options: u32,
@@ -140,24 +154,25 @@ pub extern "C" fn gsym_lookup(
         × MeetsLookup file.now (address addr) (options_of options) found frames.old frames.new }
 {
     let found = gsym::open(file).lookup(Address(addr), asked_by(options), frames);
-    lay_out(found)
+    GsymAnswer::from(found)
 }
 
 // ---- a single block
 
-// What a block has, as C has it.
-fn lay_listed(read: Result<usize, Refusal>) -> GsymListed
-    ensures { result ≡ listed read }
-{
-    match read {
-        Ok(count) => GsymListed {
-            count: count as u64,
-            number: 0,
-        },
-        Err(fault) => GsymListed {
-            count: 0,
-            number: fault.number() as u32,
-        },
+impl From<Result<usize, Refusal>> for GsymListed {
+    ghost from_gives = { λ read laid. laid ≡ listed read };
+
+    fn from(read: Result<usize, Refusal>) -> GsymListed {
+        match read {
+            Ok(count) => GsymListed {
+                count: count as u64,
+                number: 0,
+            },
+            Err(fault) => GsymListed {
+                count: 0,
+                number: fault.number() as u32,
+            },
+        }
     }
 }
 
@@ -165,7 +180,7 @@ fn lay_listed(read: Result<usize, Refusal>) -> GsymListed
 /// many as the list has places, and for 64 at most. Written are exactly the frames; a refusal (10 to 14) writes none
 /// (RULES, "Inline tree").
 #[unsafe(no_mangle)]
-pub extern "C" fn gsym_block_frames(
+pub extern "C" fn gsym_block_frames_2(
     block: &[u8],
     symbol: u64,
     addr: u64,
@@ -185,10 +200,10 @@ pub extern "C" fn gsym_block_frames(
     ensures list { result.number ≡ 0
         → Ok (take result.count frames.new) ≡ block_of symbol addr (min 64 (length frames.old)) block.now }
 {
-    lay_listed(gsym::block_frames(block, Address(symbol), Address(addr), frames))
+    GsymListed::from(gsym::block_frames(block, Address(symbol), Address(addr), frames))
 }
 
-/// The version of the library.
+/// The version of the library, as include/gsym.h counts it (RULES, "Calls").
 #[unsafe(no_mangle)]
 pub extern "C" fn gsym_version() -> u32
     ensures { result ≡ 200 }

@@ -1,36 +1,57 @@
-//! Callers of `gsym` as a repository that takes it would write them. Each is proved with no proof file: that what was
-//! written lies in the list, that no difference of addresses wraps, and that a number picks a row of a table. What a
-//! caller must know of a call stands on the call.
+//! Callers of `gsym` as a repository that takes it would write them. Each is proved with no proof file: what it returns,
+//! in the words of the library's clauses, that what was written lies in the list, that no difference of addresses
+//! wraps, that a name is there, and that a number picks a row of a table. What a caller must know of a call stands on
+//! the call.
 #![tactic(auto)]
 
-ghost use Rattle.std.specs.Prelude.{◌≡◌, ◌≤◌, IfOk, OnErr};
+ghost use Rattle.std.specs.Prelude.{◌≡◌, ◌↔◌, ◌+◌, ◌-◌, ◌^◌, ◌≤◌, min, fold, take, length, option_map, slice_get, IfOk, IfSome, IsSome, IsTrue, OnErr, IsErrOf, false};
+ghost use Rattle.std.specs.Result.{result_map_both};
+ghost use Rattle.gsym_types.specs.declared.Refusal.{Refusal};
+ghost use Rattle.gsym_types.specs.Refusal.{number_of};
+ghost use Rattle.gsym_strtab.specs.Strings.{part_of};
+ghost use Rattle.gsym_inline.specs.Block.{block_of};
+ghost use Rattle.gsym_resolver.specs.Lookup.{lookup_of, all_options, plain_options};
+ghost use Rattle.gsym_resolver.specs.Met.{Met};
+ghost use Rattle.gsym.specs.Lookups.{room_in};
+ghost use Rattle.gsym.specs.CallOrder.{calls_in_order};
+ghost use Rattle.gsym.specs.Names.{IsNameIn};
+ghost use Rattle.gsym_resolver.specs.WithPlaces.{bytes_of};
+ghost use Rattle.gsym_caller.specs.Answers.{highest_of, innermost_name};
 
-use gsym::{
-    Address, Answer, Frame, Gsym, InlineFrame, LineNumber, Options, Refusal, StrOffset, Text,
-};
+use gsym::{Address, Answer, Frame, Gsym, InlineFrame, LineNumber, Options, Refusal, StrOffset};
 
 /// The highest line that execution had reached in the calls inlined at an address, with `gsym::lookup` and a list that
 /// is lent.
 pub fn highest_line(file: &[u8], addr: Address, frames: &mut [Frame]) -> Result<LineNumber, Refusal>
     ensures kept { OnErr result (frames.new ≡ frames.old) }
+    ensures exact { result ≡ result_map_both (λ l. highest_of l.frames) (λ r. r)
+        (lookup_of file.now addr all_options (room_in frames.old)) }
 {
     let answer = gsym::lookup(file, addr, Options::ALL, frames)?;
-    let mut highest = LineNumber(0);
-    for frame in &frames[..answer.count] {
-        highest = highest.max(frame.position.line);
-    }
-    Ok(highest)
+    Ok(highest_of(&frames[..answer.count]))
 }
 
 /// The same of an opened file, with an array of its own.
-pub fn highest_line_in(gsym: &Gsym<'_>, addr: Address) -> Result<LineNumber, Refusal> {
+pub fn highest_line_in(gsym: &Gsym<'_>, addr: Address) -> Result<LineNumber, Refusal>
+    ensures refused { (r : Refusal) → IsErrOf result r ↔ Met gsym.now.file.now addr all_options 16 r }
+    ensures exact { result ≡ result_map_both (λ l. highest_of l.frames) (λ r. r)
+        (lookup_of gsym.now.file.now addr all_options 16) }
+{
     let mut frames = [Frame::default(); 16];
-    let answer = gsym.lookup(addr, Options::ALL, &mut frames)?;
-    let mut highest = LineNumber(0);
-    for frame in &frames[..answer.count] {
-        highest = highest.max(frame.position.line);
-    }
-    Ok(highest)
+    let found = gsym.lookup(addr, Options::ALL, &mut frames)?;
+    Ok(highest_of(&frames[..found.count]))
+}
+
+// The highest line of some records, 0 where there are none.
+fn highest_of(records: &[Frame]) -> LineNumber
+    ensures { result ≡ highest_of records.now }
+{
+    LineNumber(
+        records
+            .iter()
+            .map(|frame| frame.position.line.0)
+            .fold(0, |highest, line| highest.max(line)),
+    )
 }
 
 /// How many bytes an address lies past the start of its symbol.
@@ -59,11 +80,10 @@ pub fn last_call_line(
 }
 
 /// The function of a block's outermost frame, with an array that has room for every frame there may be.
-pub fn outermost(
-    block: &[u8],
-    symbol: Address,
-    addr: Address,
-) -> Result<Option<StrOffset>, Refusal> {
+pub fn outermost(block: &[u8], symbol: Address, addr: Address) -> Result<Option<StrOffset>, Refusal>
+    ensures exact { result ≡ result_map_both (λ fs. option_map (λ f. f.name) (slice_get fs 0)) (λ r. r)
+        (block_of symbol.0 addr.0 64 block.now) }
+{
     let mut frames = [InlineFrame::default(); gsym::MAX_FRAMES];
     let count = gsym::block_frames(block, symbol, addr, &mut frames)?;
     Ok(frames[..count].first().map(|frame| frame.name))
@@ -80,7 +100,9 @@ pub fn exit_status(gsym: &Gsym<'_>, addr: Address) -> u8
 }
 
 /// Whether it helps to look the file up elsewhere, by a table that has a row for each number of a refusal.
-pub fn is_of_the_file(refusal: Refusal) -> bool {
+pub fn is_of_the_file(refusal: Refusal) -> bool
+    ensures { IsTrue result ↔ (2 ≤ number_of refusal) × (number_of refusal ≤ 4) }
+{
     const OF_THE_FILE: [bool; 15] = [
         false, false, true, true, true, false, false, false, false, false, false, false, false,
         false, false,
@@ -89,27 +111,45 @@ pub fn is_of_the_file(refusal: Refusal) -> bool {
 }
 
 /// The name of an answer as a string.
-pub fn name_of<'a>(gsym: &Gsym<'a>, answer: &Answer) -> Option<&'a str> {
+pub fn name_of<'a>(gsym: &Gsym<'a>, answer: &Answer) -> Option<&'a str>
+    ensures bytes { IfSome result (λ name.
+        name.now ≡ part_of gsym.now.file.now answer.now.name.place answer.now.name.len) }
+    ensures some { IsSome result ↔ IsNameIn gsym.now.file.now answer.now.name }
+{
     gsym.name(answer.name)
 }
 
-/// The name of the innermost function at an address: of the last call inlined there, or of the symbol.
-pub fn innermost<'a>(gsym: &Gsym<'a>, addr: Address) -> Result<Option<&'a str>, Refusal> {
+/// The name of the symbol at an address, as a string: where there is an answer, there is one.
+pub fn symbol_name<'a>(gsym: &Gsym<'a>, addr: Address) -> Result<&'a str, Refusal>
+    ensures refused { (r : Refusal) → IsErrOf result r ↔ Met gsym.now.file.now addr (plain_options false) 0 r }
+    ensures exact { result_map_both (λ name. name.now) (λ r. r) result
+        ≡ result_map_both (λ l. bytes_of gsym.now.file.now l.answer.name) (λ r. r)
+        (lookup_of gsym.now.file.now addr (plain_options false) 0) }
+{
+    let answer = gsym.lookup(addr, Options::NAME, &mut [])?;
+    Ok(gsym.name(answer.name).unwrap())
+}
+
+/// The name of the innermost function at an address: of the last call inlined there, or of the symbol. Where there is
+/// an answer, there is one.
+pub fn innermost<'a>(gsym: &Gsym<'a>, addr: Address) -> Result<&'a str, Refusal>
+    ensures refused { (r : Refusal) → IsErrOf result r ↔ Met gsym.now.file.now addr all_options 16 r }
+    ensures exact { result_map_both (λ name. name.now) (λ r. r) result
+        ≡ result_map_both (λ l. bytes_of gsym.now.file.now (innermost_name l)) (λ r. r)
+        (lookup_of gsym.now.file.now addr all_options 16) }
+{
     let mut frames = [Frame::default(); 16];
-    let answer = gsym.lookup(addr, Options::ALL, &mut frames)?;
-    Ok(
-        gsym.calls(&answer, &frames)
-            .next()
-            .and_then(|call| gsym.name(call.name)),
-    )
+    let found = gsym.lookup(addr, Options::ALL, &mut frames)?;
+    if let Some(last) = frames[..found.count].last() {
+        return Ok(gsym.name(last.name).unwrap());
+    }
+    Ok(gsym.name(found.name).unwrap())
 }
 
 /// How many bytes the names of all calls at an address have, the symbol's included.
-pub fn names_len(gsym: &Gsym<'_>, answer: &Answer, frames: &[Frame]) -> u64 {
-    let mut len: u64 = 0;
-    for call in gsym.calls(answer, frames) {
-        let name: Text = call.name;
-        len = len.saturating_add(name.len as u64);
-    }
-    len
+pub fn names_len(gsym: &Gsym<'_>, answer: &Answer, frames: &[Frame]) -> u64
+    ensures { result ≡ fold (λ len call. min (len + call.name.len) (2 ^ 64 - 1)) 0
+        (calls_in_order answer.now (take answer.now.count frames.now)) }
+{
+    gsym.calls(answer, frames).fold(0, |len: u64, call| len.saturating_add(call.name.len as u64))
 }

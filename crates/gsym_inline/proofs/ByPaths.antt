@@ -5,6 +5,8 @@
 use Rattle.std.proofs.Common.{ℕ, zero, suc, ◌<◌, List, [], ◌∷◌, map, ◌↔◌, ◌≡◌, refl, ap, ap₂, sym, ◌∙◌, length, get_or, arith}
 use mathlib.Core.List.Memᴰ
 use mathlib.Core.List.{Memᴰ}
+use Rattle.std.specs.List.{Contains}
+use Rattle.gsym_inline.proofs.Members.{contains_mem, mem_contains}
 use Rattle.std.specs.Prelude.{Some}
 use lib.ListN.{length-map}
 use Rattle.gsym_types.specs.declared.InlineFrame.{InlineFrame}
@@ -97,7 +99,10 @@ module _ (addr base : ℕ) (forest : Forest) where
   pub unique : (ps : List NodePath) → ListedPaths addr base forest ps → ps ≡ frame_paths addr base forest
   unique ps l =
       ordered-unique ps (frame_paths addr base forest) l.order (ordered addr base forest)
-      (λ p. (λ h. (listed p).1 ((l.exactly p).0 h), λ h. (l.exactly p).1 ((listed p).0 h)))
+      (λ p. (
+        λ h. (listed p).1 ((l.exactly p).0 (mem_contains ps p h)),
+        λ h. contains_mem ps p ((l.exactly p).1 ((listed p).0 h)),
+      ))
 
   -- as many frames as paths
   pub frames-count : length (frames addr base forest) ≡ length (frame_paths addr base forest)
@@ -106,8 +111,14 @@ module _ (addr base : ℕ) (forest : Forest) where
       ∙ ap length (sym (frames-by-paths addr base forest))
       ∙ length-map (frame_paths addr base forest) (frame_at base forest)
 
+  contained : (p : NodePath) → Contains (frame_paths addr base forest) p ↔ IsFrame addr base forest p
+  contained p = (
+    λ m. (listed p).0 (contains_mem _ p m),
+    λ f. mem_contains _ p ((listed p).1 f),
+  )
+
   pub paths-listed : ListedPaths addr base forest (frame_paths addr base forest)
-  paths-listed = record { exactly = listed; order = ordered addr base forest }
+  paths-listed = record { exactly = contained; order = ordered addr base forest }
 
   -- listed paths are as many as frames
   pub listed-count : (ps : List NodePath) → ListedPaths addr base forest ps → length ps ≡ length (frames addr base forest)

@@ -5,7 +5,7 @@ use Rattle.std.specs.Prelude.{Some}
 use Rattle.gsym_inline.specs.Tree.{Node, Forest, none, tree}
 use Rattle.gsym_inline.specs.Frames.{child_base}
 use Rattle.gsym_inline.proofs.Forests.{Fits, depth}
-use Rattle.gsym_inline.specs.Paths.{NodePath, top, under, child, UpTo, level, Placed, node_at, Contains, Open, Judged, on-top, of-open, NodeFits, JudgedFit, NoneOn, NoneBelow}
+use Rattle.gsym_inline.specs.Paths.{NodePath, top, under, child, UpTo, level, Placed, node_at, ContainsAddress, Open, Judged, on_top, of_open, NodeFits, JudgedFit, NoneOn, NoneBelow}
 use Rattle.gsym_inline.proofs.PathLists.{later}
 use Rattle.gsym_inline.proofs.ByPathsTests.{contains-iff, node-fits-iff}
 use Rattle.gsym_inline.proofs.ByPathsWalk.{
@@ -28,43 +28,43 @@ later-child (under i p) k = refl
 
 module _ (addr base : ℕ) (n : Node) (children rest : Forest) where
   judged-under :
-      (p : NodePath) → Contains addr base n → Judged addr (child_base base n) children p →
+      (p : NodePath) → ContainsAddress addr base n → Judged addr (child_base base n) children p →
       Judged addr base (tree n children rest) (under 0 p)
-  judged-under p c (on-top i e) = of-open (top 0) i (ap (under 0) e) ((open-first addr base n children rest).1 c)
-  judged-under p c (of-open q k e o) =
-      of-open (under 0 q) k (ap (under 0) e) ((open-under addr base n children rest q).1 (c, o))
+  judged-under p c (on_top i e) = of_open (top 0) i (ap (under 0) e) ((open-first addr base n children rest).1 c)
+  judged-under p c (of_open q k e o) =
+      of_open (under 0 q) k (ap (under 0) e) ((open-under addr base n children rest q).1 (c, o))
 
   judged-under-inv :
       (p : NodePath) → Judged addr base (tree n children rest) (under 0 p) →
-      Contains addr base n × Judged addr (child_base base n) children p
-  judged-under-inv p (on-top i e) = let z : ◌≡◌ {A = ℕ} 0 1 = cc in absurd (omega arith)
-  judged-under-inv p (of-open (top i) k e o) =
+      ContainsAddress addr base n × Judged addr (child_base base n) children p
+  judged-under-inv p (on_top i e) = let z : ◌≡◌ {A = ℕ} 0 1 = cc in absurd (omega arith)
+  judged-under-inv p (of_open (top i) k e o) =
       let a : i ≡ 0 = cc in
       let b : p ≡ top k = cc in
-      ((open-first addr base n children rest).0 (subst (λ j. Open addr base (tree n children rest) (top j)) a o), on-top k b)
-  judged-under-inv p (of-open (under i q) k e o) =
+      ((open-first addr base n children rest).0 (subst (λ j. Open addr base (tree n children rest) (top j)) a o), on_top k b)
+  judged-under-inv p (of_open (under i q) k e o) =
       let a : i ≡ 0 = cc in
       let b : p ≡ child q k = cc in
       let c = (open-under addr base n children rest q).0 (subst (λ j. Open addr base (tree n children rest) (under j q)) a o) in
-      (c.0, of-open q k b c.1)
+      (c.0, of_open q k b c.1)
 
   judged-later : (p : NodePath) → Judged addr base rest p → Judged addr base (tree n children rest) (later p)
-  judged-later p (on-top i e) = on-top (suc i) (ap later e)
-  judged-later p (of-open q k e o) =
-      of-open (later q) k (ap later e ∙ later-child q k) ((open-later addr base n children rest q).1 o)
+  judged-later p (on_top i e) = on_top (suc i) (ap later e)
+  judged-later p (of_open q k e o) =
+      of_open (later q) k (ap later e ∙ later-child q k) ((open-later addr base n children rest q).1 o)
 
   judged-later-inv : (p : NodePath) → Judged addr base (tree n children rest) (later p) → Judged addr base rest p
-  judged-later-inv (top i) j = on-top i refl
-  judged-later-inv (under i p) (on-top j e) = let z : ◌≡◌ {A = ℕ} 0 1 = cc in absurd (omega arith)
-  judged-later-inv (under i p) (of-open (top j) k e o) =
+  judged-later-inv (top i) j = on_top i refl
+  judged-later-inv (under i p) (on_top j e) = let z : ◌≡◌ {A = ℕ} 0 1 = cc in absurd (omega arith)
+  judged-later-inv (under i p) (of_open (top j) k e o) =
       let a : j ≡ suc i = cc in
       let b : p ≡ top k = cc in
-      of-open (top i) k (ap (under i) b)
+      of_open (top i) k (ap (under i) b)
       ((open-later addr base n children rest (top i)).0 (subst (λ m. Open addr base (tree n children rest) (top m)) a o))
-  judged-later-inv (under i p) (of-open (under j q) k e o) =
+  judged-later-inv (under i p) (of_open (under j q) k e o) =
       let a : j ≡ suc i = cc in
       let b : p ≡ child q k = cc in
-      of-open (under i q) k (ap (under i) b)
+      of_open (under i q) k (ap (under i) b)
       ((open-later addr base n children rest (under i q)).0 (subst (λ m. Open addr base (tree n children rest) (under m q)) a o))
 
 -- ---- open nodes are judged
@@ -87,9 +87,9 @@ pub open-judged :
     (addr base : ℕ) (forest : Forest) (p : NodePath) → Open addr base forest p → Judged addr base forest p
 open-judged addr base forest p o =
     ⊎_elim
-    (λ (a : (i : ℕ) × (p ≡ top i)). on-top a.0 a.1)
+    (λ (a : (i : ℕ) × (p ≡ top i)). on_top a.0 a.1)
     (λ (a : (q : NodePath) × (k : ℕ) × (p ≡ child q k)).
-    of-open a.0 a.1 a.2 (λ r u. o r (subst (UpTo r) (sym a.2) (up-to-child r a.0 a.1 u))))
+    of_open a.0 a.1 a.2 (λ r u. o r (subst (UpTo r) (sym a.2) (up-to-child r a.0 a.1 u))))
     (parent_of p)
 
 -- ---- sums and call files
@@ -118,7 +118,7 @@ unfolding Fits
 judged-fits addr base none f = tt
 judged-fits addr base (tree n children rest) f =
     let first : Placed = record { base = base; node = n } in
-    let own = (node-fits-iff base n).1 (f (top 0) first (node-first base n children rest) (on-top 0 refl)) in (
+    let own = (node-fits-iff base n).1 (f (top 0) first (node-first base n children rest) (on_top 0 refl)) in (
       own.0,
       own.1,
       λ h.

@@ -6,6 +6,7 @@ use mathlib.Core.List.Memᴰ
 use mathlib.Core.List.{Memᴰ}
 use Rattle.std.proofs.lemmas.Bool.{cases_lt}
 use Rattle.gsym_inline.specs.Paths.{NodePath, top, under, first, child, UpTo, Before, parent, sibling, inside, InOrder}
+use Rattle.gsym_inline.proofs.Members.{contains_mem, mem_contains}
 use Rattle.gsym_inline.proofs.PathLists.{later}
 
 -- ---- a strict total order
@@ -112,7 +113,7 @@ ordered-nil = tt
 
 pub ordered-one : (p : NodePath) → InOrder (p ∷ [])
 unfolding InOrder
-ordered-one p = (λ q m. absurd (Memᴰ.not-nil m), tt)
+ordered-one p = (λ q m. absurd (Memᴰ.not-nil (contains_mem [] q m)), tt)
 
 pub ordered-append :
     (ps qs : List NodePath) → InOrder ps → InOrder qs →
@@ -120,7 +121,7 @@ pub ordered-append :
 unfolding InOrder
 ordered-append [] qs r s b = s
 ordered-append (p ∷ ps) qs r s b = (
-  λ q m. ⊎_elim (r.0 q) (b p q (Memᴰ.head refl)) (Memᴰ.append_cases ps m),
+  λ q m. ⊎_elim (λ o. r.0 q (mem_contains ps q o)) (b p q (Memᴰ.head refl)) (Memᴰ.append_cases ps (contains_mem (ps ++ qs) q m)),
   ordered-append ps qs r.1 s (λ x q m o. b x q (Memᴰ.tail m) o),
 )
 
@@ -130,7 +131,9 @@ pub ordered-map :
 unfolding InOrder
 ordered-map f mono [] r = tt
 ordered-map f mono (p ∷ ps) r = (
-  λ q m. let j = Memᴰ.of_map f ps m in subst (Before (f p)) j.2 (mono p j.0 (r.0 j.0 j.1)),
+  λ q m.
+      let j = Memᴰ.of_map f ps (contains_mem (map f ps) q m) in
+      subst (Before (f p)) j.2 (mono p j.0 (r.0 j.0 (mem_contains ps j.0 j.1))),
   ordered-map f mono ps r.1,
 )
 
@@ -146,7 +149,7 @@ module _ (d : NodePath) where
   unfolding InOrder
   ordered-at [] i j r l h = absurd (omega arith)
   ordered-at (p ∷ ps) i zero r l h = absurd (omega arith)
-  ordered-at (p ∷ ps) zero (suc j) r l h = r.0 (get_or ps j d) (get_or-mem ps j (omega arith))
+  ordered-at (p ∷ ps) zero (suc j) r l h = r.0 (get_or ps j d) (mem_contains ps (get_or ps j d) (get_or-mem ps j (omega arith)))
   ordered-at (p ∷ ps) (suc i) (suc j) r l h = ordered-at ps i j r.1 (omega arith) (omega arith)
 
   -- no path stands at two places
@@ -194,9 +197,11 @@ ordered-unique [] [] rx ry m = refl
 ordered-unique [] (y ∷ ys) rx ry m = absurd (Memᴰ.not-nil ((m y).1 (Memᴰ.head refl)))
 ordered-unique (x ∷ xs) [] rx ry m = absurd (Memᴰ.not-nil ((m x).0 (Memᴰ.head refl)))
 ordered-unique (x ∷ xs) (y ∷ ys) rx ry m =
-    let e = heads x y xs ys rx.0 ry.0 ((m x).0 (Memᴰ.head refl)) ((m y).1 (Memᴰ.head refl)) in
+    let bx : (q : NodePath) → Memᴰ q xs → Before x q = λ q o. rx.0 q (mem_contains xs q o) in
+    let by_y : (q : NodePath) → Memᴰ q ys → Before y q = λ q o. ry.0 q (mem_contains ys q o) in
+    let e = heads x y xs ys bx by_y ((m x).0 (Memᴰ.head refl)) ((m y).1 (Memᴰ.head refl)) in
     ap₂
     ◌∷◌
     e
     (ordered-unique xs ys rx.1 ry.1
-    (λ p. (tails x y xs ys rx.0 e p (m p).0, tails y x ys xs ry.0 (sym e) p (m p).1)))
+    (λ p. (tails x y xs ys bx e p (m p).0, tails y x ys xs by_y (sym e) p (m p).1)))

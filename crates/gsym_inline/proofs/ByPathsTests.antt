@@ -3,11 +3,13 @@
 use Rattle.std.proofs.Common.{ℕ, ◌+◌, ◌≤◌, ◌<◌, Bool, true, false, true≢false, List, [], ◌∷◌, ◌↔◌, ◌≡◌, refl, ap, sym, ◌∙◌, ltb, leb, ltb-true, ltb-false, leb-true, lt-ltb, le-ltb, le-leb, if◌then◌else◌, cond}
 use mathlib.Core.Bool.{false≢true}
 use mathlib.Core.List.{Memᴰ}
+use Rattle.gsym_inline.proofs.Members.{contains_mem, mem_contains}
 use Rattle.gsym_inline.specs.Tree.{Range, Node}
 use Rattle.gsym_inline.specs.Frames.{in_range, any_in}
 use Rattle.gsym_inline.specs.Limits.{most_address, most_file}
+use Rattle.gsym_inline.proofs.Ranges.{any_in-cons}
 use Rattle.gsym_inline.proofs.Forests.{too_large, any_large}
-use Rattle.gsym_inline.specs.Paths.{Contains, NodeFits}
+use Rattle.gsym_inline.specs.Paths.{ContainsAddress, NodeFits}
 
 -- ---- a test that some range of a list meets
 
@@ -60,8 +62,7 @@ module _ (addr base : ℕ) where
 
   in-cons :
       (r : Range) (rs : List Range) → any_in addr base (r ∷ rs) ≡ (if in_range addr base r then true else any_in addr base rs)
-  unfolding any_in
-  in-cons r rs = refl
+  in-cons r rs = any_in-cons addr base r rs
 
   in-range-inv : (r : Range) → in_range addr base r ≡ true → (base + r.off ≤ addr) × (addr < base + r.off + r.size)
   unfolding in_range
@@ -78,18 +79,18 @@ module _ (addr base : ℕ) where
   in-range r s e = rw (le-leb _ _ s, lt-ltb _ _ e)
 
   -- the test `any_in` says whether a node contains the address
-  pub contains-iff : (n : Node) → (any_in addr base n.ranges ≡ true) ↔ Contains addr base n
+  pub contains-iff : (n : Node) → (any_in addr base n.ranges ≡ true) ↔ ContainsAddress addr base n
   contains-iff n = (to, from)
     where
-      to : any_in addr base n.ranges ≡ true → Contains addr base n
+      to : any_in addr base n.ranges ≡ true → ContainsAddress addr base n
       to h =
           let i = any-inv (in_range addr base) (any_in addr base) in-nil in-cons n.ranges h in
           let b = in-range-inv i.0 i.2 in
-          record { range = i.0; own = i.1; start = b.0; end = b.1 }
+          record { range = i.0; own = mem_contains n.ranges i.0 i.1; start = b.0; end = b.1 }
 
-      from : Contains addr base n → any_in addr base n.ranges ≡ true
+      from : ContainsAddress addr base n → any_in addr base n.ranges ≡ true
       from c =
-          any_of (in_range addr base) (any_in addr base) in-nil in-cons c.range n.ranges c.own
+          any_of (in_range addr base) (any_in addr base) in-nil in-cons c.range n.ranges (contains_mem n.ranges c.range c.own)
           (in-range c.range c.start c.end)
 
 -- ---- sums and call files within the limits
@@ -129,11 +130,15 @@ module _ (base : ℕ) where
       each h r m = small-inv r (none_of (too_large base) (any_large base) large-nil large-cons r n.ranges h m)
 
       to : (any_large base n.ranges ≡ false) × (n.file ≤ most_file) → NodeFits base n
-      to h = record { starts = λ r m. (each h.0 r m).0; ends = λ r m. (each h.0 r m).1; file = h.1 }
+      to h = record {
+        starts = λ r m. (each h.0 r (contains_mem n.ranges r m)).0;
+        ends = λ r m. (each h.0 r (contains_mem n.ranges r m)).1;
+        file = h.1;
+      }
 
       from : NodeFits base n → (any_large base n.ranges ≡ false) × (n.file ≤ most_file)
       from f = (
         none-inv (too_large base) (any_large base) large-nil large-cons n.ranges
-            (λ r m. small r (f.starts r m) (f.ends r m)),
+            (λ r m. small r (f.starts r (mem_contains n.ranges r m)) (f.ends r (mem_contains n.ranges r m))),
         f.file,
       )

@@ -4,7 +4,7 @@ use Rattle.std.proofs.Common.{ℕ, suc, ◌↔◌, ◌≡◌, refl, ap, sym, sub
 use Rattle.std.specs.Prelude.{Some, None}
 use Rattle.gsym_inline.specs.Tree.{Node, Forest, none, tree}
 use Rattle.gsym_inline.specs.Frames.{child_base}
-use Rattle.gsym_inline.specs.Paths.{NodePath, top, under, UpTo, Placed, node_at, Contains, Holds, Open, IsFrame}
+use Rattle.gsym_inline.specs.Paths.{NodePath, top, under, UpTo, Placed, node_at, ContainsAddress, Holds, Open, IsFrame}
 use Rattle.gsym_inline.proofs.PathLists.{later}
 
 -- ---- paths
@@ -59,11 +59,11 @@ module _ (addr base : ℕ) where
   open_none p o = let h = o p (up-to-self p) in nothing (sym (none-at base p) ∙ h.there)
 
 module _ (addr base : ℕ) (n : Node) (children rest : Forest) where
-  holds-first : Holds addr base (tree n children rest) (top 0) ↔ Contains addr base n
+  holds-first : Holds addr base (tree n children rest) (top 0) ↔ ContainsAddress addr base n
   holds-first = (
     λ h.
         subst
-        (λ (x : Placed). Contains addr x.base x.node)
+        (λ (x : Placed). ContainsAddress addr x.base x.node)
         (sym (node-first-is base n children rest h.place h.there))
         h.contains,
     λ c. record { place = record { base = base; node = n }; there = node-first base n children rest; contains = c },
@@ -81,21 +81,21 @@ module _ (addr base : ℕ) (n : Node) (children rest : Forest) where
     λ h. record { place = h.place; there = node-later base n children rest p ∙ h.there; contains = h.contains },
   )
 
-  pub open-first : Open addr base (tree n children rest) (top 0) ↔ Contains addr base n
+  pub open-first : Open addr base (tree n children rest) (top 0) ↔ ContainsAddress addr base n
   open-first = (λ o. holds-first.0 (o (top 0) refl), from)
     where
-      from : Contains addr base n → Open addr base (tree n children rest) (top 0)
+      from : ContainsAddress addr base n → Open addr base (tree n children rest) (top 0)
       from c (top i) u = subst (λ k. Holds addr base (tree n children rest) (top k)) (sym u) (holds-first.1 c)
       from c (under i q) u = absurd u
 
   pub open-under :
       (p : NodePath) →
-      Open addr base (tree n children rest) (under 0 p) ↔ (Contains addr base n × Open addr (child_base base n) children p)
+      Open addr base (tree n children rest) (under 0 p) ↔ (ContainsAddress addr base n × Open addr (child_base base n) children p)
   open-under p =
       (λ o. (holds-first.0 (o (top 0) refl), λ q u. (holds-under q).0 (o (under 0 q) (refl, u))), from)
     where
       from :
-          Contains addr base n × Open addr (child_base base n) children p → Open addr base (tree n children rest) (under 0 p)
+          ContainsAddress addr base n × Open addr (child_base base n) children p → Open addr base (tree n children rest) (under 0 p)
       from c (top i) u = subst (λ k. Holds addr base (tree n children rest) (top k)) (sym u) (holds-first.1 c.0)
       from c (under i q) u =
           subst
@@ -118,7 +118,7 @@ frame-none addr base p f = nothing (sym (none-at base p) ∙ f.there)
 
 module _ (addr base : ℕ) (n : Node) (children rest : Forest) where
   pub frame-first :
-      IsFrame addr base (tree n children rest) (top 0) ↔ ((n.name ≡ 0 → ⊥) × Contains addr base n)
+      IsFrame addr base (tree n children rest) (top 0) ↔ ((n.name ≡ 0 → ⊥) × ContainsAddress addr base n)
   frame-first = (
     λ f. (
       subst
@@ -139,7 +139,7 @@ module _ (addr base : ℕ) (n : Node) (children rest : Forest) where
   pub frame-under :
       (p : NodePath) →
       IsFrame addr base (tree n children rest) (under 0 p)
-      ↔ (Contains addr base n × IsFrame addr (child_base base n) children p)
+      ↔ (ContainsAddress addr base n × IsFrame addr (child_base base n) children p)
   frame-under p = (
     λ f.
         let o = (open-under addr base n children rest p).0 f.opened in (

@@ -28,7 +28,7 @@ use Rattle.gsym_inline.specs.declared.head.Head.{Head}
 use Rattle.gsym_inline.specs.declared.judge.JudgedNode.{JudgedNode}
 use Rattle.gsym_inline.specs.declared.head.NodeHead.{NodeHead}
 use Rattle.gsym_inline.specs.declared.head.Head.TheVariants as head
-use Rattle.gsym_inline.specs.declared.judge.Context.{Context}
+use Rattle.gsym_inline.specs.View.{View}
 use Rattle.gsym_inline.specs.declared.skipping.Next.{Next}
 use Rattle.gsym_inline.specs.declared.skipping.Next.TheVariants as after
 use Rattle.gsym_inline.proofs.Follows.{bind_assoc, bind_same}
@@ -136,9 +136,9 @@ module _ (s : List ℕ) where
   -- what was judged, and all below it
   from-next :
       (f : ℕ) →
-      ((c : Context) (at : ℕ) (acc : List InlineFrame) (p : ℕ × List InlineFrame) → walk_within f s c at acc ≡ Ok p →
+      ((c : View) (at : ℕ) (acc : List InlineFrame) (p : ℕ × List InlineFrame) → walk_within f s c at acc ≡ Ok p →
       On at (length s) p.0) →
-      (c : Context) (at : ℕ) (acc : List InlineFrame) (v : Head JudgedNode) → judged_at c s at ≡ Ok v →
+      (c : View) (at : ℕ) (acc : List InlineFrame) (v : Head JudgedNode) → judged_at c s at ≡ Ok v →
       (o : Next × List InlineFrame) →
       walk_from (walk_within f s) (skip_within f s (c.level + 1)) c acc v ≡ Ok o → NextOn at (length s) o.0
   unfolding walk_from open_node closed_node
@@ -174,7 +174,7 @@ module _ (s : List ℕ) where
           rw (← ok_is _ _ n.2) a
 
   walk-next :
-      (f : ℕ) (c : Context) (at : ℕ) (acc : List InlineFrame) (p : ℕ × List InlineFrame) →
+      (f : ℕ) (c : View) (at : ℕ) (acc : List InlineFrame) (p : ℕ × List InlineFrame) →
       walk_within f s c at acc ≡ Ok p → On at (length s) p.0
   unfolding walk_within then_walk
   walk-next zero c at acc p e = absurd cc
@@ -194,8 +194,8 @@ module _ (s : List ℕ) where
 
   -- the same with more turns, for what was judged
   from-same :
-      (f g : ℕ) (c : Context) (at : ℕ) (acc : List InlineFrame) → length s - at ≤ f → length s - at ≤ g →
-      ((c : Context) (n : ℕ) (fs : List InlineFrame) → at < n → n ≤ length s →
+      (f g : ℕ) (c : View) (at : ℕ) (acc : List InlineFrame) → length s - at ≤ f → length s - at ≤ g →
+      ((c : View) (n : ℕ) (fs : List InlineFrame) → at < n → n ≤ length s →
       walk_within f s c n fs ≡ walk_within g s c n fs) →
       (v : Head JudgedNode) → judged_at c s at ≡ Ok v →
       walk_from (walk_within f s) (skip_within f s (c.level + 1)) c acc v
@@ -226,7 +226,7 @@ module _ (s : List ℕ) where
           (skip-fuel s f g (c.level + 1) i.next (omega (arith, on.0, on.1)) (omega (arith, on.0, on.1)))
 
   then-same :
-      (f g : ℕ) (c : Context) (at : ℕ) →
+      (f g : ℕ) (c : View) (at : ℕ) →
       ((n : ℕ) (fs : List InlineFrame) → at < n → n ≤ length s → walk_within f s c n fs ≡ walk_within g s c n fs) →
       (x : Next) (fs : List InlineFrame) → NextOn at (length s) x →
       then_walk (walk_within f s c) (x, fs) ≡ then_walk (walk_within g s c) (x, fs)
@@ -236,8 +236,8 @@ module _ (s : List ℕ) where
 
   -- what was judged, and the list after it
   list-same :
-      (f g : ℕ) (c : Context) (at : ℕ) (acc : List InlineFrame) → length s - at ≤ f → length s - at ≤ g →
-      ((c : Context) (n : ℕ) (fs : List InlineFrame) → at < n → n ≤ length s →
+      (f g : ℕ) (c : View) (at : ℕ) (acc : List InlineFrame) → length s - at ≤ f → length s - at ≤ g →
+      ((c : View) (n : ℕ) (fs : List InlineFrame) → at < n → n ≤ length s →
       walk_within f s c n fs ≡ walk_within g s c n fs) →
       (v : Head JudgedNode) → judged_at c s at ≡ Ok v →
       (walk_from (walk_within f s) (skip_within f s (c.level + 1)) c acc v >>= then_walk (walk_within f s c))
@@ -248,7 +248,7 @@ module _ (s : List ℕ) where
       (λ o e. then-same f g c at (same c) o.0 o.1 (from-next g (walk-next g) c at acc v q o e))
 
   pub walk-fuel :
-      (f g : ℕ) (c : Context) (at : ℕ) (acc : List InlineFrame) → length s - at < f → length s - at < g →
+      (f g : ℕ) (c : View) (at : ℕ) (acc : List InlineFrame) → length s - at < f → length s - at < g →
       walk_within f s c at acc ≡ walk_within g s c at acc
   unfolding walk_within
   walk-fuel zero g c at acc hf hg = absurd (omega arith)
@@ -260,7 +260,7 @@ module _ (s : List ℕ) where
 
   -- a list of judged nodes is its first node, and then the rest
   pub walk_step :
-      (c : Context) (at : ℕ) (acc : List InlineFrame) →
+      (c : View) (at : ℕ) (acc : List InlineFrame) →
       walk_list s c at acc ≡ (walk_node s c at acc >>= then_walk (walk_list s c))
   unfolding walk_list walk_node walk_within skip_list
   walk_step c at acc =

@@ -21,7 +21,7 @@ use Rattle.gsym_inline.specs.declared.head.Fault.TheVariants.{Unread, Level, Sum
 use Rattle.gsym_inline.specs.declared.head.NodeHead.{NodeHead}
 use Rattle.gsym_inline.specs.declared.head.Head.{Head}
 use Rattle.gsym_inline.specs.declared.head.Head.TheVariants as head
-use Rattle.gsym_inline.specs.declared.judge.Context.{Context}
+use Rattle.gsym_inline.specs.View.{View}
 use Rattle.gsym_inline.specs.declared.judge.JudgedNode.{JudgedNode}
 use Rattle.gsym_inline.proofs.Ranges.{put_front}
 use Rattle.gsym_inline.proofs.Follows.{Follows, by_told, by_given, by_step, by_first, by_test}
@@ -149,7 +149,7 @@ rest-is start inside s at =
 -- ---- a node
 
 -- a node that is there in full, judged
-abbrev pub judged_of : Context → Node × ℕ × ℕ → JudgedNode
+abbrev pub judged_of : View → Node × ℕ × ℕ → JudgedNode
 judged_of c w = record {
   next = w.2;
   base = child_base c.base w.0;
@@ -158,7 +158,7 @@ judged_of c w = record {
   frame = frame_of w.0;
 }
 
-NodeJudged : Context → Node × ℕ × ℕ → Result JudgedNode Fault → Type 0
+NodeJudged : View → Node × ℕ × ℕ → Result JudgedNode Fault → Type 0
 NodeJudged c w r = r ≡ (node_fits c w.0 >> Ok (judged_of c w))
 
 node-of : List Range → Rest → Node × ℕ × ℕ
@@ -166,7 +166,7 @@ node-of rs t = (record { ranges = rs; name = t.name; file = t.file; line = t.lin
 
 -- one of the first two tests refuses it
 node-refused :
-    (c : Context) (rs : List Range) (f : Fault) →
+    (c : View) (rs : List Range) (f : Fault) →
     ((file : ℕ) → (need (leb c.level 64) Level >> (need (not (any_large c.base rs)) Sum >> need (leb file most_file) CallFile)) ≡ Err f) →
     (x : Result Rest Cause) → Follows (NodeJudged c) (x >>= λ t. Ok (node-of rs t)) (Err f)
 unfolding node-of NodeJudged node_fits
@@ -177,7 +177,7 @@ always : {A C E : Type 0} (D : Type 0) (f : E) (x : Result A C) → Follows {D =
 always D f (Ok a) = refl
 always D f (Err k) = refl
 
-module _ (c : Context) (s : List ℕ) (z : leb c.level 64 ≡ true) where
+module _ (c : View) (s : List ℕ) (z : leb c.level 64 ≡ true) where
   node-large :
       (rs : List Range) (m : ℕ) (b : Bool) → any_large c.base rs ≡ b →
       (y : Result (List Range × ℕ) Fault) → y ≡ (if b then Err Sum else Ok (rs, m)) →
@@ -192,7 +192,7 @@ module _ (c : Context) (s : List ℕ) (z : leb c.level 64 ≡ true) where
       (rest-is start inside s m) (λ t q. rw (z, l) q))
 
 node-is :
-    (c : Context) (s : List ℕ) (count at : ℕ) → Follows (NodeJudged c) (whole_at s count at) (judged_node c s count at)
+    (c : View) (s : List ℕ) (count at : ℕ) → Follows (NodeJudged c) (whole_at s count at) (judged_node c s count at)
 unfolding whole_at judged_node node-of
 node-is c s count at = by-level (leb c.level 64) refl
   where
@@ -211,20 +211,20 @@ node-is c s count at = by-level (leb c.level 64) refl
 -- ---- what stands at a place
 
 -- as judged
-abbrev pub judge_of : Context → Found → Result (Head JudgedNode) Fault
+abbrev pub judge_of : View → Found → Result (Head JudgedNode) Fault
 judge_of c (end n) = Ok (head.End n)
 judge_of c (node self children next) = node_fits c self >> Ok (head.Node (judged_of c (self, children, next)))
 
-abbrev pub FoundJudged : Context → Found → Result (Head JudgedNode) Fault → Type 0
+abbrev pub FoundJudged : View → Found → Result (Head JudgedNode) Fault → Type 0
 FoundJudged c x r = r ≡ judge_of c x
 
 head-of :
-    (c : Context) (w : Node × ℕ × ℕ) (x : Result (Unit {0}) Fault) →
+    (c : View) (w : Node × ℕ × ℕ) (x : Result (Unit {0}) Fault) →
     ((x >> Ok (judged_of c w)) >>= λ i. Ok (head.Node i)) ≡ (x >> Ok (head.Node (judged_of c w)))
 head-of c w (Ok u) = refl
 head-of c w (Err f) = refl
 
-pub judged-is : (c : Context) (s : List ℕ) (at : ℕ) → Follows (FoundJudged c) (found_at s at) (judged_at c s at)
+pub judged-is : (c : View) (s : List ℕ) (at : ℕ) → Follows (FoundJudged c) (found_at s at) (judged_at c s at)
 unfolding found_at judged_at NodeJudged
 judged-is c s at =
     by_told (FoundJudged c) Unread (unsigned_at s at) _ _

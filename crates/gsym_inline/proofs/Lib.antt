@@ -14,6 +14,7 @@ pub mod ForestFrames
 pub mod MoreRoom
 pub mod PathLists
 pub mod ByPathsOrder
+pub mod Members
 pub mod ByPathsTests
 pub mod ByPathsWalk
 pub mod ByPathsStep

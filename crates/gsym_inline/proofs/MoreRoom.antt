@@ -12,7 +12,7 @@ use Rattle.gsym_types.specs.declared.Refusal.TheVariants.{TooManyFrames}
 use Rattle.gsym_inline.specs.Block.{block_of}
 use Rattle.gsym_inline.specs.declared.head.Fault.{Fault}
 use Rattle.gsym_inline.specs.declared.head.Fault.TheVariants.{Room}
-use Rattle.gsym_inline.specs.declared.judge.Context.{Context}
+use Rattle.gsym_inline.specs.View.{View}
 use Rattle.gsym_inline.specs.declared.head.Head.{Head}
 use Rattle.gsym_inline.specs.declared.judge.JudgedNode.{JudgedNode}
 use Rattle.gsym_inline.specs.declared.head.Head.TheVariants as head
@@ -36,7 +36,7 @@ or-step x y f g (inl e) h = inl (rw e refl)
 or-step (Ok a) y f g (inr e) h = rw (← e) (h a)
 or-step (Err k) y f g (inr e) h = inr (rw (← e) refl)
 
-abbrev ctx : (level addr base room : ℕ) → Context
+abbrev ctx : (level addr base room : ℕ) → View
 ctx level addr base room = record { level = level; addr = addr; base = base; room = room }
 
 module _ (room more : ℕ) (l : room ≤ more) where
@@ -55,7 +55,7 @@ module _ (room more : ℕ) (l : room ≤ more) where
 
   -- what was judged and all below it, with `reads` for a list of judged nodes
   head-room :
-      (reads : Context → ℕ → List InlineFrame → Places) (skips : ℕ → Result ℕ Fault) →
+      (reads : View → ℕ → List InlineFrame → Places) (skips : ℕ → Result ℕ Fault) →
       ((level addr base n : ℕ) (acc : List InlineFrame) →
       Or14 (reads (ctx level addr base room) n acc) (reads (ctx level addr base more) n acc)) →
       (level addr base : ℕ) (acc : List InlineFrame) (v : Head JudgedNode) →

@@ -10,14 +10,14 @@ use Rattle.gsym_leb128.specs.declared.Cause.TheVariants.{Short}
 use Rattle.gsym_leb128.proofs.Places.{unsigned_next}
 use Rattle.gsym_inline.specs.Tree.{Range, Node}
 use Rattle.gsym_inline.specs.Head.{range_at, ranges_at, Rest, rest_at, whole_at, Found, end, node, found_at, head_at, GoesOn}
-use Rattle.gsym_inline.specs.Judge.{judged_at, JudgedGoesOn}
+use Rattle.gsym_inline.specs.Judge.{judged_at}
 use Rattle.gsym_inline.proofs.Forests.{node_fits}
 use Rattle.gsym_inline.specs.declared.head.Fault.{Fault}
 use Rattle.gsym_inline.specs.declared.head.Fault.TheVariants.{Level}
 use Rattle.gsym_inline.specs.declared.head.NodeHead.{NodeHead}
 use Rattle.gsym_inline.specs.declared.head.Head.{Head}
 use Rattle.gsym_inline.specs.declared.head.Head.TheVariants as head
-use Rattle.gsym_inline.specs.declared.judge.Context.{Context}
+use Rattle.gsym_inline.specs.View.{View}
 use Rattle.gsym_inline.specs.declared.judge.JudgedNode.{JudgedNode}
 use Rattle.gsym_inline.proofs.Follows.{Follows, leads, then_ok}
 use Rattle.gsym_inline.proofs.Heads.{FoundJudged, judged_of, judged-is, FoundRead, head-is}
@@ -123,7 +123,7 @@ module _ (s : List ℕ) (level at : ℕ) (h : Result (Head NodeHead) Fault) (H :
 
 -- ---- a judged head
 
-module _ (s : List ℕ) (c : Context) (at : ℕ) (h : Result (Head JudgedNode) Fault) (H : h ≡ judged_at c s at) where
+module _ (s : List ℕ) (c : View) (at : ℕ) (h : Result (Head JudgedNode) Fault) (H : h ≡ judged_at c s at) where
   judged-of : (y : Head JudgedNode) → h ≡ Ok y → (x : Found) × (found_at s at ≡ Ok x) × FoundJudged c x (Ok y)
   judged-of y e =
       leads (FoundJudged c) (found_at s at) y
@@ -155,14 +155,15 @@ module _ (s : List ℕ) (c : Context) (at : ℕ) (h : Result (Head JudgedNode) F
 -- ---- and so do the readers, by their contracts
 
 pub head_onward :
-    (s : List ℕ) (level at : ℕ) (r : Result (Head NodeHead) Fault) → r ≡ head_at s level at → GoesOn level at (length s) r
+    (s : List ℕ) (level at : ℕ) (r : Result (Head NodeHead) Fault) → r ≡ head_at s level at →
+    GoesOn r (λ h. h.next) level at (length s)
 head_onward s level at (Ok (head.End n)) e = head-end-next s level at _ refl n (sym e)
 head_onward s level at (Ok (head.Node h)) e = head-next s level at _ refl h (sym e)
 head_onward s level at (Err f) e = tt
 
 pub judged_onward :
-    (s : List ℕ) (c : Context) (at : ℕ) (r : Result (Head JudgedNode) Fault) → r ≡ judged_at c s at →
-    JudgedGoesOn c.level at (length s) r
+    (s : List ℕ) (c : View) (at : ℕ) (r : Result (Head JudgedNode) Fault) → r ≡ judged_at c s at →
+    GoesOn r (λ h. h.next) c.level at (length s)
 judged_onward s c at (Ok (head.End n)) e = judged-end-next s c at _ refl n (sym e)
 judged_onward s c at (Ok (head.Node h)) e = judged-next s c at _ refl h (sym e)
 judged_onward s c at (Err f) e = tt

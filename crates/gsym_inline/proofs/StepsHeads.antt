@@ -34,7 +34,7 @@ use Rattle.gsym_inline.specs.Steps.{
   opens,
   item_at,
   with_item,
-  item,
+  item_steps,
   Mode,
   judged,
   passed,
@@ -49,7 +49,7 @@ use Rattle.gsym_inline.specs.declared.head.Fault.TheVariants as fault
 use Rattle.gsym_inline.specs.declared.head.NodeHead.{NodeHead}
 use Rattle.gsym_inline.specs.declared.head.Head.{Head}
 use Rattle.gsym_inline.specs.declared.head.Head.TheVariants as head
-use Rattle.gsym_inline.specs.declared.judge.Context.{Context}
+use Rattle.gsym_inline.specs.View.{View}
 use Rattle.gsym_inline.specs.declared.judge.JudgedNode.{JudgedNode}
 
 -- a block that is refused
@@ -137,7 +137,7 @@ module _ (room : ℕ) (acc : List InlineFrame) where
     judged-range :
         (base at : ℕ) (more : Range → ℕ → List Step) →
         outcome room acc
-        (item range_offset s at (λ off n. item range_size s n (λ size m.
+        (item_steps range_offset s at (λ off n. item_steps range_size s n (λ size m.
         sums (judged base) (record { off = off; size = size }) (more (record { off = off; size = size }) m))))
         ≡ on (judged_range base s at) (λ p. outcome room acc (more p.0 p.1))
     unfolding outcome item_at sums judged_range
@@ -169,7 +169,7 @@ module _ (room : ℕ) (acc : List InlineFrame) where
     passed-range :
         (at : ℕ) (more : Range → ℕ → List Step) →
         outcome room acc
-        (item range_offset s at (λ off n. item range_size s n (λ size m. more (record { off = off; size = size }) m)))
+        (item_steps range_offset s at (λ off n. item_steps range_size s n (λ size m. more (record { off = off; size = size }) m)))
         ≡ on (told fault.Unread (range_at s at)) (λ p. outcome room acc (more p.0 p.1))
     unfolding item_at range_at
     passed-range at more =
@@ -197,13 +197,13 @@ module _ (room : ℕ) (acc : List InlineFrame) where
 
     module _ (mode : Mode) (go : (children name file line next : ℕ) → List Step) where
       line_steps : (children name file at : ℕ) → List Step
-      line_steps children name file at = item call_line s at (λ line n. go children name file (min 4294967295 line) n)
+      line_steps children name file at = item_steps call_line s at (λ line n. go children name file (min 4294967295 line) n)
 
       file_steps : (children name at : ℕ) → List Step
-      file_steps children name at = item call_file s at (λ file n. limit mode file (line_steps children name file n))
+      file_steps children name at = item_steps call_file s at (λ file n. limit mode file (line_steps children name file n))
 
       rest_steps : ℕ → List Step
-      rest_steps at = item children_byte s at (λ children n. item node_name s n (λ name m. file_steps children name m))
+      rest_steps at = item_steps children_byte s at (λ children n. item_steps node_name s n (λ name m. file_steps children name m))
 
       -- the byte and the four bytes, with `to` for what comes after them
       byte-and-name :
@@ -304,7 +304,7 @@ module _ (room : ℕ) (acc : List InlineFrame) where
           ∙ on-same (told fault.Unread (unsigned_at s at)) _ _ (λ p. by-zero p.0 p.1 (eqb p.0 0))
           ∙ on-bind (told fault.Unread (unsigned_at s at)) _ to
         where
-          c : Context
+          c : View
           c = record { level = level; addr = addr; base = base; room = room }
 
           by-zero :

@@ -9,7 +9,7 @@ use Rattle.gsym_reads.specs.Answers.{u8_at, u32_at}
 use Rattle.gsym_leb128.specs.Leb.{digits, unsigned}
 use Rattle.gsym_leb128.specs.Answers.{unsigned_at}
 use Rattle.gsym_inline.specs.Tree.{Range, Node}
-use Rattle.gsym_inline.specs.Steps.{Item, range_count, range_offset, range_size, children_byte, node_name, call_file, call_line, Step, read, stands, ends, calls, opens, item_at, with_item, item, Mode, judged, passed, is_open, children_mode, sums, limit, range_steps, children_steps, node_steps, list_steps, steps_of, InFile, Follows, InPlace}
+use Rattle.gsym_inline.specs.Steps.{Item, range_count, range_offset, range_size, children_byte, node_name, call_file, call_line, Step, read, stands, ends, calls, opens, item_at, with_item, item_steps, Mode, judged, passed, is_open, children_mode, sums, limit, range_steps, children_steps, node_steps, list_steps, steps_of, InFile, Follows, InPlace}
 use Rattle.gsym_inline.proofs.Numbers.{never, pick-has, byte-within, word-within}
 use Rattle.gsym_leb128.proofs.Places.{unsigned_next}
 use Rattle.gsym_reads.specs.Steps.{◌>>=◌, given}
@@ -65,7 +65,7 @@ Ordered s at last xs = InFile s at xs × InPlace last xs
 module _ (s : List ℕ) where
   item_in :
       (i : Item) (at : ℕ) (last : Step) (go : ℕ → ℕ → List Step) →
-      ((v n : ℕ) → at < n → Ordered s n (read i v) (go v n)) → Ordered s at last (item i s at go)
+      ((v n : ℕ) → at < n → Ordered s n (read i v) (go v n)) → Ordered s at last (item_steps i s at go)
   unfolding with_item InFile InPlace Follows
   item_in i at last go h = by (item_at i s at) refl
     where

@@ -17,7 +17,7 @@ use Rattle.gsym_inline.specs.declared.head.Fault.TheVariants.{Room}
 use Rattle.gsym_inline.specs.declared.head.Head.{Head}
 use Rattle.gsym_inline.specs.declared.judge.JudgedNode.{JudgedNode}
 use Rattle.gsym_inline.specs.declared.head.NodeHead.{NodeHead}
-use Rattle.gsym_inline.specs.declared.judge.Context.{Context}
+use Rattle.gsym_inline.specs.View.{View}
 use Rattle.gsym_inline.specs.declared.head.Head.TheVariants as head
 use Rattle.gsym_inline.specs.declared.skipping.Next.TheVariants as after
 use Rattle.gsym_inline.proofs.Follows.{bind_assoc}
@@ -62,7 +62,7 @@ module _ (room : ℕ) (acc : List InlineFrame) (s : List ℕ) (addr : ℕ) where
 
 -- ---- judged nodes
 
-abbrev context : (level addr base room : ℕ) → Context
+abbrev context : (level addr base room : ℕ) → View
 context level addr base room = record { level = level; addr = addr; base = base; room = room }
 
 -- past a node whose list of children was read

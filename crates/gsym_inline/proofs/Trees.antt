@@ -19,7 +19,7 @@ use Rattle.gsym_inline.specs.declared.head.Head.{Head}
 use Rattle.gsym_inline.specs.declared.judge.JudgedNode.{JudgedNode}
 use Rattle.gsym_inline.specs.declared.head.NodeHead.{NodeHead}
 use Rattle.gsym_inline.specs.declared.head.Head.TheVariants as head
-use Rattle.gsym_inline.specs.declared.judge.Context.{Context}
+use Rattle.gsym_inline.specs.View.{View}
 use Rattle.gsym_inline.specs.declared.skipping.Next.TheVariants as after
 use Rattle.gsym_inline.proofs.Follows.{bind_assoc, Follows, by_step, by_test}
 use Rattle.gsym_inline.proofs.Heads.{FoundJudged, judged_of, judged-is, FoundRead, head-is}
@@ -126,7 +126,7 @@ skip_is (suc f) s level at =
 -- ---- judged
 
 -- what judged nodes come to after the frames so far: the place after them, and the frames
-abbrev pub Gives : Context → List InlineFrame → Forest × ℕ → Places → Type 0
+abbrev pub Gives : View → List InlineFrame → Forest × ℕ → Places → Type 0
 Gives c acc t r = r ≡ (forest_frames c t.0 acc >>= λ fs. Ok (t.1, fs))
 
 -- past a node whose list of children was read
@@ -136,13 +136,13 @@ over x = do
   Ok (after.Past n, fs)
 
 -- one node with all below it, after its own tests
-abbrev pub node_frames : Context → Node → Forest → List InlineFrame → Result (List InlineFrame) Fault
+abbrev pub node_frames : View → Node → Forest → List InlineFrame → Result (List InlineFrame) Fault
 node_frames c self below acc =
     if any_in c.addr c.base self.ranges
     then (with_frame c.room (frame_of self) acc >>= forest_frames (below_node c self) below)
     else (need (not (deep_in (c.level + 1) below)) Level >> Ok acc)
 
-module _ (c : Context) (acc : List InlineFrame) (self : Node) where
+module _ (c : View) (acc : List InlineFrame) (self : Node) where
   -- a node with a fault of its own
   gives-unfit :
       (g : Fault) → node_fits c self ≡ Err g → (go : ℕ → Read) (x : Read) →
@@ -174,8 +174,8 @@ module _ (c : Context) (acc : List InlineFrame) (self : Node) where
 
 -- with `onward` after the node, which reads on as `go` does
 module _ (f : ℕ) (s : List ℕ)
-    (ih : (c : Context) (at : ℕ) (acc : List InlineFrame) → Follows (Gives c acc) (read_within f s at) (walk_within f s c at acc))
-    (c : Context) (onward : ℕ → List InlineFrame → Places) (go : ℕ → Read)
+    (ih : (c : View) (at : ℕ) (acc : List InlineFrame) → Follows (Gives c acc) (read_within f s at) (walk_within f s c at acc))
+    (c : View) (onward : ℕ → List InlineFrame → Places) (go : ℕ → Read)
     (same : (n : ℕ) (acc : List InlineFrame) → Follows (Gives c acc) (go n) (onward n acc)) where
   module _ (acc : List InlineFrame) (self : Node) (u : Unit {0}) (z : node_fits c self ≡ Ok u) where
     -- an open node: its children with its frame
@@ -268,7 +268,7 @@ module _ (f : ℕ) (s : List ℕ)
 -- ---- a list, and one node with nothing after it
 
 pub walk_is :
-    (f : ℕ) (s : List ℕ) (c : Context) (at : ℕ) (acc : List InlineFrame) →
+    (f : ℕ) (s : List ℕ) (c : View) (at : ℕ) (acc : List InlineFrame) →
     Follows (Gives c acc) (read_within f s at) (walk_within f s c at acc)
 unfolding read_within walk_within
 walk_is zero s c at acc = refl
@@ -277,13 +277,13 @@ walk_is (suc f) s c at acc =
     (λ x y e. walk-stand f s (walk_is f s) c (walk_within f s c) (read_within f s) (walk_is f s c) acc x y e)
 
 -- one judged node, in so many turns
-unfoldable pub walk_from_root : ℕ → List ℕ → Context → ℕ → List InlineFrame → Walk
+unfoldable pub walk_from_root : ℕ → List ℕ → View → ℕ → List InlineFrame → Walk
 walk_from_root f s c at acc = do
   head ← judged_at c s at
   walk_from (walk_within f s) (skip_within f s (c.level + 1)) c acc head
 
 pub node-root :
-    (f : ℕ) (s : List ℕ) (c : Context) (at : ℕ) (acc : List InlineFrame) →
+    (f : ℕ) (s : List ℕ) (c : View) (at : ℕ) (acc : List InlineFrame) →
     Follows (Gives c acc) (found_at s at >>= read_from (read_within f s) (λ n. Ok (none, n)))
     (walk_from_root f s c at acc >>= then_walk (λ n fs. Ok (n, fs)))
 unfolding walk_from_root forest_frames

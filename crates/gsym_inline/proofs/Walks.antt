@@ -6,7 +6,7 @@ use Rattle.gsym_types.specs.declared.InlineFrame.{InlineFrame}
 use Rattle.gsym_inline.specs.Walk.{with_frame, then_walk, walk_list, walk_node}
 use Rattle.gsym_inline.specs.declared.head.Fault.{Fault}
 use Rattle.gsym_inline.specs.declared.head.Fault.TheVariants.{Room}
-use Rattle.gsym_inline.specs.declared.judge.Context.{Context}
+use Rattle.gsym_inline.specs.View.{View}
 use Rattle.gsym_inline.specs.declared.skipping.Next.TheVariants as after
 use Rattle.gsym_inline.proofs.Fuel.{walk_step}
 
@@ -31,7 +31,7 @@ module _ (room : ℕ) (f : InlineFrame) (xs : List InlineFrame) where
 
 -- ---- a list
 
-module _ (s : List ℕ) (c : Context) (to : ℕ) (xs : List InlineFrame) where
+module _ (s : List ℕ) (c : View) (to : ℕ) (xs : List InlineFrame) where
   pub walk_end :
       (n : ℕ) (ys : List InlineFrame) → walk_node s c to xs ≡ Ok (after.End n, ys) → walk_list s c to xs ≡ Ok (n, ys)
   unfolding then_walk

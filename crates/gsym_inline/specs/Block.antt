@@ -8,7 +8,7 @@ use Rattle.gsym_types.specs.declared.Refusal.TheVariants as refused
 use Rattle.gsym_inline.specs.Walk.{walk_node}
 use Rattle.gsym_inline.specs.declared.head.Fault.{Fault}
 use Rattle.gsym_inline.specs.declared.head.Fault.TheVariants as fault
-use Rattle.gsym_inline.specs.declared.judge.Context.{Context}
+use Rattle.gsym_inline.specs.View.{View}
 
 abbrev pub Block : Type 0
 Block = Result (List InlineFrame) Refusal
@@ -22,7 +22,7 @@ refusal_of fault.Level = refused.TooDeep
 refusal_of fault.Room = refused.TooManyFrames
 
 -- the root stands on level 1, and its offsets count from the symbol's address
-abbrev pub root_context : (symbol addr room : ℕ) → Context
+abbrev pub root_context : (symbol addr room : ℕ) → View
 root_context symbol addr room = record { level = 1; addr = addr; base = symbol; room = room }
 
 -- one block in one pass: its frames, or what comes first in reading order. A list's end instead of the root is an empty

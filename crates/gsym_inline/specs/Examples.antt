@@ -32,25 +32,25 @@ abbrev pub leaf : List ℕ
 leaf = 0x01 ∷ 0x04 ∷ 0x08 ∷ 0x00 ∷ 0x05 ∷ 0x00 ∷ 0x00 ∷ 0x00 ∷ 0x01 ∷ 0x0a ∷ []
 
 -- a root of the name `root` with a child of the name 5
-abbrev pub parent : ℕ → List ℕ
-parent root = root_named root ++ leaf ++ (0x00 ∷ [])
+abbrev pub root_over_leaf : ℕ → List ℕ
+root_over_leaf root = root_named root ++ leaf ++ (0x00 ∷ [])
 
 -- both contain 0x1005
-pub t9 : block_of 0x1000 0x1005 64 (parent 1) ≡ Ok (frame 1 0 0 ∷ frame 5 1 10 ∷ [])
+pub t9 : block_of 0x1000 0x1005 64 (root_over_leaf 1) ≡ Ok (frame 1 0 0 ∷ frame 5 1 10 ∷ [])
 unfolding byte_front u32_front u8_at u32_at digits unsigned unsigned_at in_range any_in first_off range_at ranges_at rest_at past_ranges
     rest_head node_head head_at judged_range judged_ranges judged_rest judged_node judged_at past_node then_skip skip_within
     skip_list with_frame open_node closed_node walk_from then_walk walk_within walk_list walk_node block_of
 t9 = refl
 
 -- only the root contains 0x100c
-pub t10 : block_of 0x1000 0x100c 64 (parent 1) ≡ Ok (frame 1 0 0 ∷ [])
+pub t10 : block_of 0x1000 0x100c 64 (root_over_leaf 1) ≡ Ok (frame 1 0 0 ∷ [])
 unfolding byte_front u32_front u8_at u32_at digits unsigned unsigned_at in_range any_in first_off range_at ranges_at rest_at past_ranges
     rest_head node_head head_at judged_range judged_ranges judged_rest judged_node judged_at past_node then_skip skip_within
     skip_list with_frame open_node closed_node walk_from then_walk walk_within walk_list walk_node block_of
 t10 = refl
 
 -- the root has no name
-pub t11 : block_of 0x1000 0x1005 64 (parent 0) ≡ Ok (frame 5 1 10 ∷ [])
+pub t11 : block_of 0x1000 0x1005 64 (root_over_leaf 0) ≡ Ok (frame 5 1 10 ∷ [])
 unfolding byte_front u32_front u8_at u32_at digits unsigned unsigned_at in_range any_in first_off range_at ranges_at rest_at past_ranges
     rest_head node_head head_at judged_range judged_ranges judged_rest judged_node judged_at past_node then_skip skip_within
     skip_list with_frame open_node closed_node walk_from then_walk walk_within walk_list walk_node block_of
@@ -86,10 +86,10 @@ called_on line = block_of 0x1000 0x1005 64
 
 -- ---- as many frames as there may be
 
--- 64 leaves below a root of the name `root`
 abbrev pub four : List ℕ → List ℕ
 four xs = xs ++ xs ++ xs ++ xs
 
+-- 64 leaves below a root of the name `root`
 abbrev pub family : ℕ → List ℕ
 family root = root_named root ++ four (four (four leaf)) ++ (0x00 ∷ [])
 

@@ -11,6 +11,7 @@ use Rattle.gsym_types.specs.declared.Refusal.TheVariants.{
   TooManyFrames,
 }
 use Rattle.gsym_inline.specs.Block.{Block, block_of}
+use Rattle.gsym_inline.specs.Examples.{four}
 
 -- a block at an address, and what it is refused with
 pub record Case : Type 0 where
@@ -22,80 +23,79 @@ pub record Case : Type 0 where
 
 -- at an address that the nodes below contain, with room for 64; at one that they don't contain; with room for none;
 -- for a symbol on the largest address
-abbrev pub inside : List ℕ → Refusal → Case
-inside bytes refusal = record { symbol = 0x1000; addr = 0x1005; room = 64; bytes = bytes; refusal = refusal }
+abbrev pub contained : List ℕ → Refusal → Case
+contained bytes refusal = record { symbol = 0x1000; addr = 0x1005; room = 64; bytes = bytes; refusal = refusal }
 
 abbrev pub outside : List ℕ → Refusal → Case
 outside bytes refusal = record { symbol = 0x1000; addr = 0x2000; room = 64; bytes = bytes; refusal = refusal }
 
-abbrev pub full : List ℕ → Refusal → Case
-full bytes refusal = record { symbol = 0x1000; addr = 0x1005; room = 0; bytes = bytes; refusal = refusal }
+abbrev pub no_room : List ℕ → Refusal → Case
+no_room bytes refusal = record { symbol = 0x1000; addr = 0x1005; room = 0; bytes = bytes; refusal = refusal }
 
 abbrev pub highest : List ℕ → Refusal → Case
 highest bytes refusal =
     record { symbol = 18446744073709551615; addr = 0x1005; room = 64; bytes = bytes; refusal = refusal }
 
 -- a node's items: one range of 32 bytes at offset 0; one at offset 1; children byte and name; call file 0 and 2^32
-abbrev pub range : List ℕ
-range = 0x01 ∷ 0x00 ∷ 0x20 ∷ []
+abbrev pub low_range : List ℕ
+low_range = 0x01 ∷ 0x00 ∷ 0x20 ∷ []
 
 abbrev pub above : List ℕ
 above = 0x01 ∷ 0x01 ∷ 0x00 ∷ []
 
-abbrev pub named : ℕ → List ℕ
-named children = children ∷ 0x01 ∷ 0x00 ∷ 0x00 ∷ 0x00 ∷ []
+abbrev pub byte_and_name : ℕ → List ℕ
+byte_and_name children = children ∷ 0x01 ∷ 0x00 ∷ 0x00 ∷ 0x00 ∷ []
 
 abbrev pub wide : List ℕ
 wide = 0x80 ∷ 0x80 ∷ 0x80 ∷ 0x80 ∷ 0x10 ∷ []
 
 -- a node with children to follow, and 64 of them, each in the one before it
-abbrev pub parent : List ℕ
-parent = range ++ named 1 ++ (0x00 ∷ 0x00 ∷ [])
-
-abbrev pub four : List ℕ → List ℕ
-four xs = xs ++ xs ++ xs ++ xs
+abbrev pub with_children : List ℕ
+with_children = low_range ++ byte_and_name 1 ++ (0x00 ∷ 0x00 ∷ [])
 
 abbrev pub deep : List ℕ
-deep = four (four (four parent))
+deep = four (four (four with_children))
 
 abbrev pub cases : List Case
 cases =
     -- 10: range count, short and too wide; offset; size; children byte; name; call file; call line
-    inside [] UnreadInline
-    ∷ inside (replicate 9 0xff ++ (0x02 ∷ [])) UnreadInline
-    ∷ inside (0x01 ∷ []) UnreadInline
-    ∷ inside (0x01 ∷ 0x00 ∷ []) UnreadInline
-    ∷ inside range UnreadInline
-    ∷ inside (range ++ (0x01 ∷ 0x00 ∷ 0x00 ∷ 0x00 ∷ [])) UnreadInline
-    ∷ inside (range ++ named 0) UnreadInline
-    ∷ inside (range ++ named 0 ++ (0x00 ∷ [])) UnreadInline
+    contained [] UnreadInline
+    ∷ contained (replicate 9 0xff ++ (0x02 ∷ [])) UnreadInline
+    ∷ contained (0x01 ∷ []) UnreadInline
+    ∷ contained (0x01 ∷ 0x00 ∷ []) UnreadInline
+    ∷ contained low_range UnreadInline
+    ∷ contained (low_range ++ (0x01 ∷ 0x00 ∷ 0x00 ∷ 0x00 ∷ [])) UnreadInline
+    ∷ contained (low_range ++ byte_and_name 0) UnreadInline
+    ∷ contained (low_range ++ byte_and_name 0 ++ (0x00 ∷ [])) UnreadInline
     -- 11: size before start; start; end; both before the next range, and before the children byte
     ∷ highest (0x01 ∷ 0x01 ∷ []) UnreadInline
     ∷ highest (0x02 ∷ 0x01 ∷ 0x00 ∷ []) InlineSumTooLarge
     ∷ highest (0x02 ∷ 0x00 ∷ 0x01 ∷ []) InlineSumTooLarge
     ∷ highest above InlineSumTooLarge
     -- 12: after 11, and before the call line
-    ∷ highest (above ++ named 0 ++ wide) InlineSumTooLarge
-    ∷ inside (range ++ named 0 ++ wide) CallFileTooLarge
+    ∷ highest (above ++ byte_and_name 0 ++ wide) InlineSumTooLarge
+    ∷ contained (low_range ++ byte_and_name 0 ++ wide) CallFileTooLarge
     -- 14: after the call line, and before the children
-    ∷ full (range ++ named 0 ++ (0x00 ∷ [])) UnreadInline
-    ∷ full (range ++ named 0 ++ wide ++ (0x00 ∷ [])) CallFileTooLarge
-    ∷ full (range ++ named 0 ++ (0x00 ∷ 0x00 ∷ [])) TooManyFrames
-    ∷ full parent TooManyFrames
-    ∷ inside parent UnreadInline
+    ∷ no_room (low_range ++ byte_and_name 0 ++ (0x00 ∷ [])) UnreadInline
+    ∷ no_room (low_range ++ byte_and_name 0 ++ wide ++ (0x00 ∷ [])) CallFileTooLarge
+    ∷ no_room (low_range ++ byte_and_name 0 ++ (0x00 ∷ 0x00 ∷ [])) TooManyFrames
+    ∷ no_room with_children TooManyFrames
+    ∷ contained with_children UnreadInline
     -- 13: after the range count, and before the offset; on level 65 and on no other; below a closed node too
-    ∷ inside deep UnreadInline
-    ∷ inside (deep ++ (0x01 ∷ [])) TooDeep
+    ∷ contained deep UnreadInline
+    ∷ contained (deep ++ (0x01 ∷ [])) TooDeep
     ∷ outside deep UnreadInline
     ∷ outside (deep ++ (0x01 ∷ [])) TooDeep
     -- below a closed node no call file is judged; all below a sibling comes before the next
-    ∷ outside (parent ++ range ++ named 0 ++ wide ++ (0x00 ∷ [])) UnreadInline
-    ∷ inside (parent ++ parent ++ range ++ named 0 ++ wide ++ (0x00 ∷ 0x00 ∷ 0x01 ∷ [])) CallFileTooLarge
+    ∷ outside (with_children ++ low_range ++ byte_and_name 0 ++ wide ++ (0x00 ∷ [])) UnreadInline
+    ∷ contained
+    (with_children ++ with_children ++ low_range ++ byte_and_name 0 ++ wide ++ (0x00 ∷ 0x00 ∷ 0x01 ∷ []))
+    CallFileTooLarge
     ∷ []
 
 -- the definition refuses each with that
-abbrev pub refused : Refusal → Block
-refused r = Err r
+abbrev pub refusing : Refusal → Block
+refusing r = Err r
 
 abbrev pub FaultNumbers : Type 0
-FaultNumbers = map (λ c. block_of c.symbol c.addr c.room c.bytes) cases ≡ map (λ c. refused c.refusal) cases
+FaultNumbers = map (λ c. block_of c.symbol c.addr c.room c.bytes) cases ≡ map (λ c. refusing c.refusal) cases

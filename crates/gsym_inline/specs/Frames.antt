@@ -2,7 +2,8 @@
 -- tree").
 -- Sums are of natural numbers, so none wraps.
 -- Assumes nothing.
-use Rattle.std.specs.Prelude.{ℕ, ◌+◌, List, [], ◌∷◌, ◌++◌, Bool, true, false, nat_lt, nat_le, ◌==◌, if◌then◌else◌}
+use Rattle.std.specs.Prelude.{ℕ, ◌+◌, List, [], ◌∷◌, ◌++◌, Bool, false, nat_lt, nat_le, ◌==◌, if◌then◌else◌}
+use Rattle.std.specs.List.{list_any}
 use Rattle.gsym_types.specs.declared.InlineFrame.{InlineFrame}
 use Rattle.gsym_inline.specs.Tree.{Range, Node, Forest, none, tree}
 
@@ -12,8 +13,7 @@ in_range addr base r = if nat_le (base + r.off) addr then nat_lt addr (base + r.
 
 -- a node contains the address if any of its ranges does
 unfoldable pub any_in : ℕ → ℕ → List Range → Bool
-any_in addr base [] = false
-any_in addr base (r ∷ rs) = if in_range addr base r then true else any_in addr base rs
+any_in addr base rs = list_any (in_range addr base) rs
 
 -- offsets of children count from the first range's start
 unfoldable pub first_off : List Range → ℕ

@@ -31,7 +31,7 @@ use Rattle.gsym_reads.specs.Answers.{u8_at, u32_at}
 use Rattle.gsym_leb128.specs.Answers.{unsigned_at}
 use Rattle.gsym_leb128.specs.declared.Cause.{Cause}
 use Rattle.gsym_leb128.specs.declared.Cause.TheVariants.{Short}
-use Rattle.gsym_inline.specs.Limits.{deepest_level}
+use Rattle.gsym_inline.specs.Limits.{most_line, deepest_level}
 use Rattle.gsym_inline.specs.Tree.{Range, Node}
 use Rattle.gsym_inline.specs.declared.head.Fault.{Fault}
 use Rattle.gsym_inline.specs.declared.head.Fault.TheVariants.{Unread, Level}
@@ -76,7 +76,14 @@ rest_at s at = do
   name ← given Short (u32_at s (at + 1))
   (file, m) ← unsigned_at s (at + 5)
   (line, next) ← unsigned_at s m
-  Ok (record { children = children; name_at = at + 1; name = name; file = file; line = min 4294967295 line; next = next })
+  Ok (record {
+    children = children;
+    name_at = at + 1;
+    name = name;
+    file = file;
+    line = min most_line line;
+    next = next;
+  })
 
 -- a node after its range count: what it says, its children byte, and the place after its head
 unfoldable pub whole_at : List ℕ → ℕ → ℕ → Result (Node × ℕ × ℕ) Cause
@@ -135,8 +142,9 @@ head_at s level at = do
     h ← node_head s level count first
     Ok (head.Node h)
 
--- where reading goes on after a head: further on, within `len` bytes; and a node stands on no level below the deepest
-abbrev pub GoesOn : (level at len : ℕ) → Result (Head NodeHead) Fault → Type 0
-GoesOn level at len (Ok (head.End n)) = (at < n) × (n ≤ len)
-GoesOn level at len (Ok (head.Node h)) = (at < h.next) × (h.next ≤ len) × (level ≤ deepest_level)
-GoesOn level at len (Err f) = Unit {0}
+-- where reading goes on after a head, of a node at `next`: further on, within `len` bytes; and a node stands on no level
+-- below the deepest
+abbrev pub GoesOn : {T : Type 0} → Result (Head T) Fault → (next : T → ℕ) → (level at len : ℕ) → Type 0
+GoesOn (Ok (head.End n)) next level at len = (at < n) × (n ≤ len)
+GoesOn (Ok (head.Node h)) next level at len = (at < next h) × (next h ≤ len) × (level ≤ deepest_level)
+GoesOn (Err f) next level at len = Unit {0}

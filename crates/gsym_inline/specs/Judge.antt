@@ -11,14 +11,11 @@
 -- Assumes nothing.
 use Rattle.std.specs.Prelude.{
   Ok,
-  Err,
   Result,
   ℕ,
   zero,
   suc,
   ◌+◌,
-  ◌<◌,
-  ◌≤◌,
   min,
   List,
   [],
@@ -32,12 +29,12 @@ use Rattle.gsym_reads.specs.Steps.{◌>>=◌, ◌>>◌, need, given, told}
 use Rattle.gsym_reads.specs.Answers.{u8_at, u32_at}
 use Rattle.gsym_leb128.specs.Answers.{unsigned_at}
 use Rattle.gsym_leb128.specs.declared.Cause.TheVariants.{Short}
-use Rattle.gsym_inline.specs.Limits.{most_address, most_file, deepest_level}
+use Rattle.gsym_inline.specs.Limits.{most_address, most_file, most_line, deepest_level}
 use Rattle.gsym_inline.specs.Tree.{Range}
 use Rattle.gsym_inline.specs.Frames.{in_range, any_in, first_off, frame}
 use Rattle.gsym_inline.specs.declared.head.Fault.{Fault}
 use Rattle.gsym_inline.specs.declared.head.Fault.TheVariants.{Unread, Level, Sum, CallFile}
-use Rattle.gsym_inline.specs.declared.judge.Context.{Context}
+use Rattle.gsym_inline.specs.View.{View}
 use Rattle.gsym_inline.specs.declared.judge.JudgedNode.{JudgedNode}
 use Rattle.gsym_inline.specs.declared.head.Head.{Head}
 use Rattle.gsym_inline.specs.declared.head.Head.TheVariants as head
@@ -72,39 +69,33 @@ judged_rest start inside s at = do
     base = start;
     inside = inside;
     children = children;
-    frame = frame name file (min 4294967295 line);
+    frame = frame name file (min most_line line);
   })
 
 -- what follows the range count
-unfoldable pub judged_node : Context → List ℕ → ℕ → ℕ → Result JudgedNode Fault
+unfoldable pub judged_node : View → List ℕ → ℕ → ℕ → Result JudgedNode Fault
 judged_node c s count at = do
   need (nat_le c.level deepest_level) Level
   (rs, m) ← judged_ranges c.base count s at
   judged_rest (c.base + first_off rs) (any_in c.addr c.base rs) s m
 
 -- what stands at a place, judged
-unfoldable pub judged_at : Context → List ℕ → ℕ → Result (Head JudgedNode) Fault
+unfoldable pub judged_at : View → List ℕ → ℕ → Result (Head JudgedNode) Fault
 judged_at c s at = do
   (count, first) ← told Unread (unsigned_at s at)
   if count == 0 then Ok (head.End first) else do
     node ← judged_node c s count first
     Ok (head.Node node)
 
--- where reading goes on after a judged head: as after a head (specs/Head.antt)
-abbrev pub JudgedGoesOn : (level at len : ℕ) → Result (Head JudgedNode) Fault → Type 0
-JudgedGoesOn level at len (Ok (head.End n)) = (at < n) × (n ≤ len)
-JudgedGoesOn level at len (Ok (head.Node h)) = (at < h.next) × (h.next ≤ len) × (level ≤ deepest_level)
-JudgedGoesOn level at len (Err f) = Unit {0}
-
 -- ---- ranges as the code keeps them: the place after them, the start of the first, and whether one of them contains the
 -- address
 
-unfoldable pub span_of : Context → Result (Range × ℕ) Fault → Result (ℕ × ℕ × Bool) Fault
+unfoldable pub span_of : View → Result (Range × ℕ) Fault → Result (ℕ × ℕ × Bool) Fault
 span_of c x = do
   (r, n) ← x
   Ok (n, c.base + r.off, in_range c.addr c.base r)
 
-unfoldable pub spans_of : Context → Result (List Range × ℕ) Fault → Result (ℕ × ℕ × Bool) Fault
+unfoldable pub spans_of : View → Result (List Range × ℕ) Fault → Result (ℕ × ℕ × Bool) Fault
 spans_of c x = do
   (rs, n) ← x
   Ok (n, c.base + first_off rs, any_in c.addr c.base rs)

@@ -10,6 +10,10 @@ most_address = 18446744073709551615
 abbrev pub most_file : ℕ
 most_file = 4294967295
 
+-- the largest call line that is told, 2^32-1, which one above it becomes
+abbrev pub most_line : ℕ
+most_line = 4294967295
+
 -- the deepest level that a node may stand on
 abbrev pub deepest_level : ℕ
 deepest_level = 64

@@ -2,13 +2,13 @@
 -- is not 0, each once, parents before children, siblings in file order, all below one sibling before the next.
 -- `ListedPaths` is that sentence.
 --
---   Memᴰ x xs      x is a member of the list xs            A ↔ B   each follows from the other
+--   Contains xs x  x is an element of the list xs         A ↔ B   each follows from the other
 --   Some x, None   there is one, namely x; there is none   A → ⊥   A is false
 --
 -- Sums are of natural numbers, so none wraps.
 -- Assumes nothing.
 use Rattle.std.specs.Prelude.{ℕ, zero, suc, ◌+◌, ◌≤◌, ◌<◌, ◌↔◌, ◌≡◌, List, [], ◌∷◌, map, Option, Some, None, option_map}
-use mathlib.Core.List.{Memᴰ}
+use Rattle.std.specs.List.{Contains}
 use Rattle.gsym_types.specs.declared.InlineFrame.{InlineFrame}
 use Rattle.gsym_inline.specs.Tree.{Range, Node, Forest, none, tree}
 use Rattle.gsym_inline.specs.Frames.{child_base, frame_of}
@@ -67,9 +67,9 @@ frame_at base forest p = option_map (λ x. frame_of x.node) (node_at base forest
 
 -- a node contains the address if one of its ranges does, which runs from base plus offset, size bytes long, its end
 -- not contained
-pub record Contains (addr base : ℕ) (n : Node) : Type 0 where
+pub record ContainsAddress (addr base : ℕ) (n : Node) : Type 0 where
   pub range : Range
-  pub own : Memᴰ range n.ranges
+  pub own : Contains n.ranges range
   pub start : base + range.off ≤ addr
   pub end : addr < base + range.off + range.size
 
@@ -77,7 +77,7 @@ pub record Contains (addr base : ℕ) (n : Node) : Type 0 where
 pub record Holds (addr base : ℕ) (forest : Forest) (p : NodePath) : Type 0 where
   pub place : Placed
   pub there : node_at base forest p ≡ Some place
-  pub contains : Contains addr place.base place.node
+  pub contains : ContainsAddress addr place.base place.node
 
 -- there is a node at the path, and it and all its ancestors contain the address
 abbrev pub Open : ℕ → ℕ → Forest → NodePath → Type 0
@@ -85,8 +85,8 @@ Open addr base forest p = (q : NodePath) → UpTo q p → Holds addr base forest
 
 -- judged: nodes of the top level, and the children of open nodes
 pub data Judged (addr base : ℕ) (forest : Forest) (p : NodePath) : Type 0 where
-  on-top : (i : ℕ) → p ≡ top i → Judged addr base forest p
-  of-open : (q : NodePath) (k : ℕ) → p ≡ child q k → Open addr base forest q → Judged addr base forest p
+  on_top : (i : ℕ) → p ≡ top i → Judged addr base forest p
+  of_open : (q : NodePath) (k : ℕ) → p ≡ child q k → Open addr base forest q → Judged addr base forest p
 
 -- ---- which nodes are listed, and in which order
 
@@ -107,11 +107,11 @@ pub data Before : NodePath → NodePath → Type 0 where
 -- each path of the list is before all that follow it
 unfoldable pub InOrder : List NodePath → Type 0
 InOrder [] = Unit {0}
-InOrder (p ∷ ps) = ((q : NodePath) → Memᴰ q ps → Before p q) × InOrder ps
+InOrder (p ∷ ps) = ((q : NodePath) → Contains ps q → Before p q) × InOrder ps
 
 -- the paths are exactly those of the open nodes with a name other than 0, and they stand in order
 pub record ListedPaths (addr base : ℕ) (forest : Forest) (ps : List NodePath) : Type 0 where
-  pub exactly : (p : NodePath) → Memᴰ p ps ↔ IsFrame addr base forest p
+  pub exactly : (p : NodePath) → Contains ps p ↔ IsFrame addr base forest p
   pub order : InOrder ps
 
 -- the frames `fs` are those of the nodes at the paths `ps`, one for each
@@ -122,8 +122,8 @@ FramesAt base forest ps fs = map (frame_at base forest) ps ≡ map Some fs
 
 -- every range of the node starts and ends at most at the largest address, and its call file is at most the limit
 pub record NodeFits (base : ℕ) (n : Node) : Type 0 where
-  pub starts : (r : Range) → Memᴰ r n.ranges → base + r.off ≤ most_address
-  pub ends : (r : Range) → Memᴰ r n.ranges → base + r.off + r.size ≤ most_address
+  pub starts : (r : Range) → Contains n.ranges r → base + r.off ≤ most_address
+  pub ends : (r : Range) → Contains n.ranges r → base + r.off + r.size ≤ most_address
   pub file : n.file ≤ most_file
 
 -- every judged node does so

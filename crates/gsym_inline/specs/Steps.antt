@@ -3,7 +3,7 @@
 -- every fault but one: after an item that doesn't read nothing is known. specs/FirstFault.antt says which step is
 -- refused.
 --
---   item i s at (λ v n. ..)   the item i at the place `at`: its value is v, and reading goes on at the place n
+--   item_steps i s at (λ v n. ..)   the item i at the place `at`: its value is v, and reading goes on at the place n
 --
 -- Each node takes at least one byte, so that as many turns as bytes, and one to see the end, are enough.
 -- Assumes nothing.
@@ -31,6 +31,7 @@ use Rattle.gsym_reads.specs.Answers.{u8_at, u32_at}
 use Rattle.gsym_leb128.specs.Answers.{unsigned_at}
 use Rattle.gsym_leb128.specs.declared.Cause.{Cause}
 use Rattle.gsym_leb128.specs.declared.Cause.TheVariants.{Short}
+use Rattle.gsym_inline.specs.Limits.{most_line}
 use Rattle.gsym_inline.specs.Tree.{Range, Node}
 use Rattle.gsym_inline.specs.Frames.{any_in, child_base}
 
@@ -75,8 +76,8 @@ unfoldable pub with_item : Item → (ℕ → ℕ → List Step) → Result (ℕ 
 with_item i go (Ok (v, n)) = read i v ∷ go v n
 with_item i go (Err k) = unread i k ∷ []
 
-abbrev pub item : Item → List ℕ → ℕ → (ℕ → ℕ → List Step) → List Step
-item i s at go = with_item i go (item_at i s at)
+abbrev pub item_steps : Item → List ℕ → ℕ → (ℕ → ℕ → List Step) → List Step
+item_steps i s at go = with_item i go (item_at i s at)
 
 -- ---- which nodes are judged
 
@@ -110,8 +111,8 @@ limit passed file more = more
 unfoldable pub range_steps : ℕ → List ℕ → Mode → ℕ → (List Range → ℕ → List Step) → List Step
 range_steps zero s mode at go = go [] at
 range_steps (suc count) s mode at go =
-    item range_offset s at (λ off n.
-    item range_size s n (λ size m.
+    item_steps range_offset s at (λ off n.
+    item_steps range_size s n (λ size m.
     sums mode (record { off = off; size = size }) (
     range_steps count s mode m (λ rs k. go (record { off = off; size = size } ∷ rs) k))))
 
@@ -130,17 +131,17 @@ unfoldable pub node_steps :
     (ℕ → Mode → ℕ → (ℕ → List Step) → List Step) → List ℕ → (addr level : ℕ) → Mode → (at : ℕ) →
     (over rest : ℕ → List Step) → List Step
 node_steps list s addr level mode at over rest =
-    item range_count s at (λ count n.
+    item_steps range_count s at (λ count n.
     if count == 0 then over n else (
     stands level ∷ (
     range_steps count s mode n (λ rs n.
-    item children_byte s n (λ children n.
-    item node_name s n (λ name n.
-    item call_file s n (λ file n.
+    item_steps children_byte s n (λ children n.
+    item_steps node_name s n (λ name n.
+    item_steps call_file s n (λ file n.
     limit mode file (
-    item call_line s n (λ line n.
+    item_steps call_line s n (λ line n.
     children_steps list addr level mode rest
-    (record { ranges = rs; name = name; file = file; line = min 4294967295 line }) children n)))))))))
+    (record { ranges = rs; name = name; file = file; line = min most_line line }) children n)))))))))
 
 -- nodes side by side, each with all below it before the next, in so many turns
 unfoldable pub list_steps : ℕ → List ℕ → (addr level : ℕ) → Mode → (at : ℕ) → (over : ℕ → List Step) → List Step

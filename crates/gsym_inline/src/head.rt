@@ -2,6 +2,7 @@
 //! at an address is left to `judge`.
 ghost use Rattle.std.specs.Prelude.{◌≡◌, ◌+◌, ◌≤◌, OnOk, length, min};
 ghost use Rattle.gsym_inline.specs.declared.head.Fault.TheVariants.{Unread};
+ghost use Rattle.gsym_inline.specs.Limits.{most_line};
 ghost use Rattle.gsym_inline.specs.Head.{children_and_name, past_ranges, rest_head, node_head, head_at, GoesOn};
 
 use gsym_leb128::{Cause, unsigned_at};
@@ -17,6 +18,7 @@ const MOST_LINE: u64 = 0xffff_ffff;
 #[derive(Clone, Copy, Debug, PartialEq, Eq, Hash)]
 pub enum Fault {
     /// The bytes don't read: they end, or a number is too wide (10).
+    // No Option: one error beside others, and it keeps the cause.
     Unread(Cause),
     /// The start or the end of a range is above 2^64-1 (11).
     Sum,
@@ -36,18 +38,24 @@ impl From<Cause> for Fault {
     }
 }
 
-/// A whole head: how many ranges there are and where the first stands, the children byte, where the name stands and what
-/// it is, the call file, which is not judged, the call line, and the place after the head. Places are counted in bytes
-/// from the start of the block.
+/// A whole head (RULES, "Inline tree"). Places are counted in bytes from the start of the block.
 #[derive(Clone, Copy, Debug, PartialEq, Eq, Default, Hash)]
 pub struct NodeHead {
+    /// How many ranges there are, at least one.
     pub ranges: u64,
+    /// Where the first range stands.
     pub first: usize,
+    /// The children byte: 0 where no list of children follows.
     pub children: u8,
+    /// Where the name stands.
     pub name_at: usize,
+    /// The name, 0 where there is none.
     pub name: StrOffset,
+    /// The call file, which is not judged.
     pub call_file: u64,
+    /// The call line, 4,294,967,295 where the block has one above.
     pub call_line: LineNumber,
+    /// The place after the head.
     pub next: usize,
 }
 
@@ -77,7 +85,7 @@ fn pass_ranges(s: &[u8], count: u64, at: usize) -> Result<usize, Cause>
 
 // A call line as it is told.
 pub(crate) fn capped(line: u64) -> u32
-    ensures { result ≡ min 4294967295 line }
+    ensures { result ≡ min most_line line }
 {
     line.min(MOST_LINE) as u32
 }
@@ -135,7 +143,7 @@ fn node_head(s: &[u8], level: usize, ranges: u64, first: usize) -> Result<NodeHe
 pub fn head_at(s: &[u8], level: usize, at: usize) -> Result<Head<NodeHead>, Fault>
     ensures exact { result ≡ head_at s.now level at }
     // reading goes on further on, within the bytes
-    ensures onward { GoesOn level at (length s.now) result }
+    ensures onward { GoesOn result (λ node. node.next) level at (length s.now) }
 {
     let (ranges, first) = unsigned_at(s, at)?;
     if ranges == 0 {

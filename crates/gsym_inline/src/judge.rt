@@ -1,24 +1,17 @@
 //! A node's head judged at an address (RULES, "Inline tree", "Order inside a node"): what comes first of 10 to 13, or what
 //! the node comes to. Frames and children are left to `walk`.
 ghost use Rattle.std.specs.Prelude.{◌≡◌, true, false, nat_le, nat_lt, length, if◌then◌else◌};
-ghost use Rattle.gsym_inline.specs.Judge.{judged_range, judged_ranges, judged_rest, judged_node, judged_at, span_of, spans_of, JudgedGoesOn};
+ghost use Rattle.gsym_inline.specs.Head.{GoesOn};
+ghost use Rattle.gsym_inline.specs.Judge.{judged_range, judged_ranges, judged_rest, judged_node, judged_at, span_of, spans_of};
+ghost use Rattle.gsym_inline.specs.View.{view};
 
+use super::context::Context;
 use super::head::{DEEPEST_LEVEL, Fault, Head, capped, children_and_name};
 use gsym_leb128::unsigned_at;
 use gsym_types::{FileIndex, InlineFrame, LineNumber, StrOffset};
 
 /// The largest call file (RULES, "Inline tree").
 const MOST_FILE: u64 = 0xffff_ffff;
-
-/// What goes down the tree: the level of the nodes in hand, 1 for the root; the address asked for; where their offsets
-/// count from; and how many frames there may be in all.
-#[derive(Clone, Copy, Debug, PartialEq, Eq)]
-pub(crate) struct Context {
-    pub level: usize,
-    pub addr: u64,
-    pub base: u64,
-    pub room: usize,
-}
 
 /// A node without a fault: the place after its head, where its children's offsets count from, whether it contains the
 /// address, its children byte, and the frame that it is if it is open and has a name.
@@ -36,14 +29,14 @@ pub(crate) struct JudgedNode {
 fn contains(start: u64, end: u64, addr: u64) -> bool
     ensures { result ≡ (if nat_le start addr then nat_lt addr end else false) }
 {
-    start <= addr && addr < end
+    (start..end).contains(&addr)
 }
 
 // One range: offset, size, start, end, in this order. The place after it, its start, and whether it contains the
 // address.
 #[tactic(auto, unfolding(crate::specs::Judge::span_of, crate::specs::Judge::judged_range, crate::specs::Frames::in_range))]
 fn range(s: &[u8], context: Context, at: usize) -> Result<(usize, u64, bool), Fault>
-    ensures { result ≡ span_of context (judged_range context.base s.now at) }
+    ensures { result ≡ span_of (view context) (judged_range context.base s.now at) }
 {
     let (off, m) = unsigned_at(s, at)?;
     let (size, n) = unsigned_at(s, m)?;
@@ -54,7 +47,7 @@ fn range(s: &[u8], context: Context, at: usize) -> Result<(usize, u64, bool), Fa
 
 // All ranges of a node: the place after them, the start of the first, and whether one of them contains the address.
 fn ranges(s: &[u8], context: Context, count: u64, at: usize) -> Result<(usize, u64, bool), Fault>
-    ensures { result ≡ spans_of context (judged_ranges context.base count s.now at) }
+    ensures { result ≡ spans_of (view context) (judged_ranges context.base count s.now at) }
 {
     let mut to = at;
     let mut first = context.base;
@@ -99,7 +92,7 @@ fn judge_tail(s: &[u8], start: u64, inside: bool, at: usize) -> Result<JudgedNod
 // A node after its range count: its level, its ranges, and what follows them.
 #[tactic(auto, unfolding(crate::specs::Judge::judged_node, crate::specs::Judge::spans_of))]
 fn judge_node(s: &[u8], context: Context, count: u64, at: usize) -> Result<JudgedNode, Fault>
-    ensures { result ≡ judged_node context s.now count at }
+    ensures { result ≡ judged_node (view context) s.now count at }
 {
     if DEEPEST_LEVEL < context.level {
         return Err(Fault::Level);
@@ -111,8 +104,8 @@ fn judge_node(s: &[u8], context: Context, count: u64, at: usize) -> Result<Judge
 // What stands at the place `at`, where a judged node is looked for.
 #[tactic(auto, unfolding(crate::specs::Judge::judged_at))]
 pub(crate) fn judge_at(s: &[u8], context: Context, at: usize) -> Result<Head<JudgedNode>, Fault>
-    ensures exact { result ≡ judged_at context s.now at }
-    ensures onward { JudgedGoesOn context.level at (length s.now) result }
+    ensures exact { result ≡ judged_at (view context) s.now at }
+    ensures onward { GoesOn result (λ node. node.next) context.level at (length s.now) }
 {
     let (count, first) = unsigned_at(s, at)?;
     if count == 0 {

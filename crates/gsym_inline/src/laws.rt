@@ -29,7 +29,7 @@ pub fn reads_iff()
         → IsOk (block_of symbol addr room bytes) ↔ Reads symbol addr room bytes }
 {}
 
-/// Neither a second list of frames nor a second refusal fits a block.
+/// Neither a second list of frames nor a second refusal fits a block (RULES, "Inline tree").
 pub fn one_answer()
     ensures frames { (symbol addr room : ℕ) (bytes : List ℕ) (fs gs : List InlineFrame)
         → ListsFrames symbol addr room bytes fs → ListsFrames symbol addr room bytes gs → fs ≡ gs }
@@ -39,7 +39,7 @@ pub fn one_answer()
 {}
 
 /// 25 blocks that don't read, written out, have the refusals that are written beside them, and trees whose bytes are
-/// written out have the frames that are.
+/// written out have the frames that are (RULES, "Further examples").
 #[tactic(auto, using(crate::proofs::FaultNumbers::fault_numbers, crate::proofs::FaultNumbers::tree_examples))]
 pub fn fault_numbers()
     ensures faults { FaultNumbers }

@@ -1,5 +1,6 @@
 //! The inline tree of one block (RULES, "Inline tree"): which calls were inlined at an address.
 //!
+//!     context   what goes down the tree
 //!     head      a node's head, with no address in mind
 //!     judge     a head judged at an address
 //!     skipping  nodes passed over
@@ -7,6 +8,7 @@
 //!     laws      theorems on the definitions, as contracts of functions that do nothing
 #![tactic(auto)]
 
+mod context;
 mod head;
 mod judge;
 mod laws;
@@ -21,15 +23,15 @@ ghost use Rattle.gsym_inline.specs.FirstFault.{FirstFault};
 ghost use Rattle.gsym_inline.specs.Block.{listing, refusal_of, block_of, room_of};
 
 use arrayvec::ArrayVec;
+use context::Context;
 pub use gsym_leb128::Cause;
 use gsym_types::{Address, InlineFrame, MAX_FRAMES, Refusal};
 pub use head::{DEEPEST_LEVEL, Fault, Head, NodeHead, head_at};
-use judge::Context;
 pub use laws::{fault_numbers, one_answer, reads_iff, steps_in_order};
 use walk::node;
 
-/// The frames of a block, which are never more than `gsym_types::MAX_FRAMES`.
-pub type Frames = ArrayVec<InlineFrame, 64>;
+/// The frames of a block, which are never more than `gsym_types::MAX_FRAMES` (RULES, "Inline tree").
+pub type Frames = ArrayVec<InlineFrame, MAX_FRAMES>;
 
 impl From<Fault> for Refusal {
     ghost from_gives = { λ f r. r ≡ refusal_of f };

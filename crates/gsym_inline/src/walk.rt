@@ -3,24 +3,27 @@
 ghost use Rattle.std.specs.Prelude.{◌≡◌, ◌≤◌, length};
 ghost use Rattle.gsym_inline.specs.Skip.{Onward, PlaceOnward};
 ghost use Rattle.gsym_inline.specs.Walk.{with_frame, with_frames, walk_list, walk_node, Added};
+ghost use Rattle.gsym_inline.specs.View.{view};
 
 use super::Frames;
+use super::context::Context;
 use super::head::{Fault, Head};
-use super::judge::{Context, judge_at};
+use super::judge::judge_at;
 use super::skipping::{Next, skip_all};
 use gsym_types::InlineFrame;
 
 // Adds the frame of an open node, if there is room for it. A name of 0 makes none.
 #[tactic(auto, using(crate::proofs::Walks::frame_unnamed, crate::proofs::Walks::frame_full, crate::proofs::Walks::frame_added))]
-fn push(room: usize, frame: InlineFrame, frames: &mut Frames) -> Result<(), Fault>
-    requires { (length frames.old.items ≤ room) × (room ≤ 64) }
-    ensures exact { Added result frames.new.items (with_frame room frame frames.old.items) }
-    ensures fits { length frames.new.items ≤ room }
+fn push(context: Context, frame: InlineFrame, frames: &mut Frames) -> Result<(), Fault>
+    // of two arguments, so that no type says it
+    requires { length frames.old.items ≤ context.room }
+    ensures exact { Added result frames.new.items (with_frame context.room frame frames.old.items) }
+    ensures fits { length frames.new.items ≤ context.room }
 {
     if frame.name.0 == 0 {
         return Ok(());
     }
-    if room <= frames.len() {
+    if context.room <= frames.len() {
         return Err(Fault::Room);
     }
     frames.push(frame);
@@ -36,8 +39,9 @@ pub(crate) fn node(
     at: usize,
     frames: &mut Frames,
 ) -> Result<Next, Fault>
-    requires { (length frames.old.items ≤ context.room) × (context.room ≤ 64) }
-    ensures exact { with_frames result frames.new.items ≡ walk_node s.now context at frames.old.items }
+    // of two arguments, so that no type says it
+    requires { length frames.old.items ≤ context.room }
+    ensures exact { with_frames result frames.new.items ≡ walk_node s.now (view context) at frames.old.items }
     ensures fits { length frames.new.items ≤ context.room }
     ensures onward { Onward at (length s.now) result }
 {
@@ -51,14 +55,15 @@ pub(crate) fn node(
                 let next = skip_all(s, context.level + 1, node.next)?;
                 return Ok(Next::Past(next));
             }
-            push(context.room, node.frame, frames)?;
+            push(context, node.frame, frames)?;
             if node.children == 0 {
                 return Ok(Next::Past(node.next));
             }
             let down = Context {
                 level: context.level + 1,
+                addr: context.addr,
                 base: node.base,
-                ..context
+                room: context.room,
             };
             let next = children(s, down, node.next, frames)?;
             Ok(Next::Past(next))
@@ -75,8 +80,9 @@ pub(crate) fn children(
     at: usize,
     frames: &mut Frames,
 ) -> Result<usize, Fault>
-    requires { (length frames.old.items ≤ context.room) × (context.room ≤ 64) }
-    ensures exact { with_frames result frames.new.items ≡ walk_list s.now context at frames.old.items }
+    // of two arguments, so that no type says it
+    requires { length frames.old.items ≤ context.room }
+    ensures exact { with_frames result frames.new.items ≡ walk_list s.now (view context) at frames.old.items }
     ensures fits { length frames.new.items ≤ context.room }
     ensures onward { PlaceOnward at (length s.now) result }
 {

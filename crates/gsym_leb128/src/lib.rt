@@ -6,7 +6,7 @@ ghost use Rattle.std.specs.Prelude.{◌≡◌, ◌<◌, ◌↔◌, drop, IfOk, E
 ghost use Rattle.gsym_reads.specs.Fronts.{ReadsTo};
 ghost use Rattle.gsym_leb128.specs.Answers.{unsigned_at, signed_at, unsigned_front, signed_front, EndsEarly};
 
-/// Why a number doesn't read.
+/// Why a number doesn't read (RULES, "LEB128").
 #[derive(Clone, Copy, Debug, PartialEq, Eq, PartialOrd, Ord, Hash)]
 pub enum Cause {
     /// The bytes end before the number does, and fewer than ten of them were there.
@@ -21,7 +21,8 @@ const TENTH: u64 = 0x8000_0000_0000_0000;
 // The largest tenth byte of an unsigned number: nine bytes have 63 bits, so it adds one bit, and asks for no other byte.
 const LARGEST_TENTH: u64 = 1;
 
-/// The unsigned number at `at`, which is below 2^64, and the place after it.
+/// The unsigned number at `at`, which is below 2^64, and the place after it (RULES, "LEB128"). `Short` where the bytes end
+/// before the number does, `Wide` where it is outside 64 bits or its tenth byte asks for another.
 pub fn unsigned_at(s: &[u8], at: usize) -> Result<(u64, usize), Cause>
     ensures exact { result ≡ unsigned_at s.now at }
     ensures front { ReadsTo s.now result (unsigned_front (drop at s.now)) }
@@ -56,7 +57,8 @@ pub fn unsigned_at(s: &[u8], at: usize) -> Result<(u64, usize), Cause>
     Err(Cause::Wide)
 }
 
-/// The signed number at `at`, from -2^63 to 2^63-1, in two's complement of seven bits a byte, and the place after it.
+/// The signed number at `at`, from -2^63 to 2^63-1, in two's complement of seven bits a byte, and the place after it
+/// (RULES, "LEB128"). `Short` and `Wide` as for an unsigned one.
 pub fn signed_at(s: &[u8], at: usize) -> Result<(i64, usize), Cause>
     ensures exact { result ≡ signed_at s.now at }
     ensures front { ReadsTo s.now result (signed_front (drop at s.now)) }

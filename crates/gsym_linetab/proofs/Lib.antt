@@ -1,6 +1,7 @@
 mod Factor
 mod Numbers
 mod Quickly
+pub mod Unread
 pub mod Progress
 pub mod Runs
 pub mod Choice

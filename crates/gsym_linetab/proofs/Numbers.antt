@@ -1,6 +1,6 @@
 -- The numbers of a special opcode, as std's words compute them.
 -- Assumes nothing.
-use Rattle.std.proofs.Common.{◌≡◌, ℕ, zero, suc, ◌+◌, ◌-◌, ◌/◌, ◌%◌, ◌^◌, ◌<◌, true, ℤ, pos, negsuc, ◌+ℤ◌, ◌-ℤ◌, neg_ℤ, refl, ap, ◌∙◌, div-le_self, arith, w64, to_z, of_z, FitsSigned, Ok, Result}
+use Rattle.std.proofs.Common.{◌≡◌, ℕ, zero, suc, ◌+◌, ◌-◌, ◌/◌, ◌%◌, ◌^◌, ◌<◌, true, ℤ, pos, negsuc, ◌+ℤ◌, ◌-ℤ◌, neg_ℤ, refl, ap, ◌∙◌, div-le_self, arith, w64, to_z, of_z, FitsSigned, Ok, Err, Result}
 use lib.Signed.{quot_z, rem_z}
 use Rattle.std.specs.Int.{int_wrap}
 use Rattle.std.specs.Prelude.{not, Bool, false}
@@ -9,12 +9,14 @@ use Rattle.std.proofs.lemmas.Bool.Decides.{Decides-int_eq}
 use Rattle.std.proofs.Math.Nat.{mod-le}
 use Rattle.std.specs.Ordering.{int_eq}
 use Rattle.std.proofs.lemmas.Int.{to_z-of_z, wrapping_add_onto, wrapping_add_is, wrapping_sub_is, int_wrap-add_left}
+use Rattle.gsym_types.specs.declared.Address.{Address}
 use Rattle.gsym_types.specs.declared.LineNumber.{LineNumber}
 use Rattle.gsym_linetab.specs.declared.LineTableHeader.{LineTableHeader}
 use Rattle.gsym_linetab.specs.declared.LineTableRow.{LineTableRow}
 use Rattle.gsym_linetab.specs.declared.LineState.{LineState}
 use Rattle.gsym_linetab.specs.declared.Ending.{Ending}
-use Rattle.gsym_linetab.specs.Machine.{state, range_of, line_after, special_of}
+use Rattle.gsym_linetab.specs.declared.Ending.TheVariants.{Stopped}
+use Rattle.gsym_linetab.specs.Machine.{state, range_of, line_after, addr_after, special_of}
 
 -- the difference may be wrapped before 1 is added
 pub range_is :
@@ -44,38 +46,46 @@ pub not_zero : (z : ℤ) (b : Bool) → Decides b (z ≡ pos 0) → (of_z w64 z 
 not_zero z true d n = absurd (n (ap (of_z w64) (d.0 refl)))
 not_zero z false d n = refl
 
--- ---- a special opcode at a range other than 0
+-- the quotient and the remainder as the code computes them
+module _ (a : ℕ) (range x : ℤ) (byte : a < 256) (f : FitsSigned w64 range) (e : x ≡ pos a) where
+  pub quotient_is : to_z w64 (of_z w64 (quot_z x (to_z w64 (of_z w64 range)))) ≡ quot_z (pos a) range
+  quotient_is = rw (e, to_z-of_z w64 range f) (to_z-of_z w64 (quot_z (pos a) range) (small_quotient a range byte))
 
-module _ (a : ℕ) (range min x : ℤ) (byte : a < 256) (f : FitsSigned w64 range) (g : FitsSigned w64 min) (e : x ≡ pos a) where
-  steps_are :
-      of_z w64 (to_z w64 (of_z w64 (quot_z x (to_z w64 (of_z w64 range))))) ≡ of_z w64 (quot_z (pos a) range)
-  steps_are =
-      rw (e, to_z-of_z w64 range f, to_z-of_z w64 (quot_z (pos a) range) (small_quotient a range byte)) refl
+  pub remainder_is : to_z w64 (of_z w64 (rem_z x (to_z w64 (of_z w64 range)))) ≡ rem_z (pos a) range
+  remainder_is = rw (e, to_z-of_z w64 range f) (to_z-of_z w64 (rem_z (pos a) range) (small_remainder a range byte))
 
-  change_is :
-      to_z w64 ((of_z w64 min + of_z w64 (rem_z x (to_z w64 (of_z w64 range)))) % 2 ^ 64)
-      ≡ int_wrap w64 (min +ℤ rem_z (pos a) range)
-  change_is =
-      rw (e, to_z-of_z w64 range f)
-      (wrapping_add_is w64 min (rem_z (pos a) range) g (small_remainder a range byte))
+-- a range whose bits are 0 is 0
+is_zero : (z : ℤ) → FitsSigned w64 z → of_z w64 z ≡ 0 → z ≡ pos 0
+is_zero (pos n) f e = ap pos e
+is_zero (negsuc n) f e = absurd (omega (arith, f.sfits))
+
+-- ---- a special opcode
 
 module _ (h : LineTableHeader) (r : LineTableRow) (a n : ℕ) (range : ℤ) where
-  pub special_is :
-      a < 256 → FitsSigned w64 range → FitsSigned w64 h.min_delta → range ≡ range_of h → (of_z w64 range ≡ 0 → ⊥) →
-      (x y : ℤ) (line : LineNumber) (addr : ℕ) → x ≡ pos a → y ≡ pos a →
-      line
-      ≡ line_after r.file_line
-      (to_z w64 ((of_z w64 h.min_delta + of_z w64 (rem_z x (to_z w64 (of_z w64 range)))) % 2 ^ 64)) →
-      addr ≡ (r.addr.0 + of_z w64 (to_z w64 (of_z w64 (quot_z y (to_z w64 (of_z w64 range)))))) % 2 ^ 64 →
-      ◌≡◌ {A = Result LineState Ending} (Ok (state addr r.file_idx.0 line.0 n)) (special_of h r a n)
+  pub stopped_is :
+      FitsSigned w64 range → range ≡ range_of h → of_z w64 range ≡ 0 →
+      ◌≡◌ {A = Result LineState Ending} (Err Stopped) (special_of h r a n)
   unfolding special_of
-  special_is byte f g e nz x y line addr eX eY eL eA =
+  stopped_is f e z = rw (← e, is_zero range f z) refl
+
+  pub special_is :
+      (steps over : ℤ) (addr : Address) (line : LineNumber) → a < 256 → FitsSigned w64 h.min_delta →
+      range ≡ range_of h → (of_z w64 range ≡ 0 → ⊥) → steps ≡ quot_z (pos a) range → over ≡ rem_z (pos a) range →
+      addr ≡ addr_after r.addr steps →
+      line ≡ line_after r.file_line (to_z w64 ((of_z w64 h.min_delta + of_z w64 over) % 2 ^ 64)) →
+      ◌≡◌ {A = Result LineState Ending} (Ok (state addr.0 r.file_idx.0 line.0 n)) (special_of h r a n)
+  unfolding special_of
+  special_is steps over addr line byte f e nz eS eO eA eL =
       rw (
         eL,
         eA,
-        change_is a range h.min_delta x byte f g eX,
-        steps_are a range h.min_delta y byte f g eY,
+        eS,
+        eO,
+        wrapping_add_is w64 h.min_delta (rem_z (pos a) range) f (small_remainder a range byte),
         ← e,
         not_zero range (int_eq range (pos 0)) (Decides-int_eq range (pos 0)) nz,
       )
       refl
+
+-- for the attribute of `special`
+pub ruleset specials = (special_is, stopped_is)

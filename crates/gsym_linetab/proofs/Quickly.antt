@@ -17,7 +17,7 @@ use Rattle.gsym_linetab.specs.declared.RunResult.TheVariants as run
 use Rattle.gsym_linetab.specs.declared.quick.Plan.{Plan}
 use Rattle.gsym_linetab.specs.Machine.{state, set_file, advance_pc, advance_line, no_row, a_row, special_of, step_of}
 use Rattle.gsym_linetab.specs.Rows.{Run, run_of, row_from, row_for}
-use Rattle.gsym_linetab.specs.Quick.{IsPlanFor, row_before, MakesNoRow, MakesOneRow, MakesNextRow}
+use Rattle.gsym_linetab.specs.Quick.{row_before, MakesNoRow, MakesOneRow, MakesNextRow}
 use Rattle.gsym_linetab.proofs.Factor.{product_small, quotient, quotient-back}
 use Rattle.gsym_linetab.proofs.Numbers.{not_zero}
 use Rattle.gsym_linetab.proofs.Progress.{ok_ahead, row_ahead}
@@ -142,15 +142,15 @@ module _ (h : LineTableHeader) (ops : List ℕ) (t : LineState) where
 
 -- ---- special opcodes
 
-module _ (h : LineTableHeader) (p : Plan) (s : IsPlanFor h p) (a : ℕ) (byte : a < 256) where
+module _ (p : Plan) (a : ℕ) (byte : a < 256) where
   pub steps-small : a * p.factor < 2 ^ 32
-  steps-small = product_small p.range p.factor s.some s.few s.times a byte
+  steps-small = product_small p.range p.factor p.planned.some p.planned.few p.planned.times a byte
 
   pub steps-are : a * p.factor / 65536 ≡ a / p.range
-  steps-are = quotient p.range p.factor s.some s.few s.times a byte
+  steps-are = quotient p.range p.factor p.planned.some p.planned.few p.planned.times a byte
 
   pub over-is : (a * p.factor / 65536 * p.range ≤ a) × (a - a * p.factor / 65536 * p.range ≡ a % p.range)
-  over-is = quotient-back p.range p.factor s.some s.few s.times a byte
+  over-is = quotient-back p.range p.factor p.planned.some p.planned.few p.planned.times a byte
 
 -- a line may be moved by min modulo 2^32
 moved-line :
@@ -163,22 +163,22 @@ moved-line line r min byte f =
     ∙ of_z-to_z w64 sum (omega arith) in
     rw w (omega arith)
 
-module _ (h : LineTableHeader) (p : Plan) (s : IsPlanFor h p) (f : FitsSigned w64 h.min_delta) where
+module _ (p : Plan) (f : FitsSigned w64 p.header.min_delta) where
   special-is :
       (addr file line a n to on : ℕ) → a < 256 → to ≡ (addr + a / p.range) % 2 ^ 64 →
       on ≡ (line + p.low + a % p.range) % 2 ^ 32 →
-      ◌≡◌ {A = Result LineState Ending} (Ok (state to file on n)) (special_of h (state addr file line n).row a n)
+      ◌≡◌ {A = Result LineState Ending} (Ok (state to file on n)) (special_of p.header (state addr file line n).row a n)
   unfolding special_of
   special-is addr file line a n to on byte eT eL =
       let small : a % p.range < 256 = omega (arith, mod-le a p.range) in
-      let nz : pos p.range ≡ pos 0 → ⊥ = λ z. let q : p.range ≡ 0 = cc in omega (arith, s.some) in
+      let nz : pos p.range ≡ pos 0 → ⊥ = λ z. let q : p.range ≡ 0 = cc in omega (arith, p.planned.some) in
       rw (
         eT,
         eL,
-        s.least,
-        moved-line line (a % p.range) h.min_delta small f,
-        s.whole,
-        not_zero (pos p.range) (int_eq (pos p.range) (pos 0)) (Decides-int_eq (pos p.range) (pos 0)) (λ e. omega (arith, s.some)),
+        p.planned.least,
+        moved-line line (a % p.range) p.header.min_delta small f,
+        p.planned.whole,
+        not_zero (pos p.range) (int_eq (pos p.range) (pos 0)) (Decides-int_eq (pos p.range) (pos 0)) (λ e. omega (arith, p.planned.some)),
       )
       refl
 
@@ -187,16 +187,16 @@ module _ (h : LineTableHeader) (p : Plan) (s : IsPlanFor h p) (f : FitsSigned w6
       let a = get_or ops at 0 - 4 in
       let steps = a * p.factor / 65536 in
       to ≡ (addr + steps) % 2 ^ 64 → on ≡ (line + p.low + (a - steps * p.range)) % 2 ^ 32 →
-      MakesOneRow h ops (state addr file line at) (state to file on (at + 1))
+      MakesOneRow p.header ops (state addr file line at) (state to file on (at + 1))
   special-made ops at addr file line to on l above byte eT eL =
       let t = state addr file line at in
       let a = get_or ops at 0 - 4 in
       let q = state to file on (at + 1) in
-      let r : ◌≡◌ {A = Result LineState Ending} (Ok q) (special_of h t.row a (at + 1)) =
+      let r : ◌≡◌ {A = Result LineState Ending} (Ok q) (special_of p.header t.row a (at + 1)) =
       special-is addr file line a (at + 1) to on (omega arith)
-      (eT ∙ ap (λ x. (addr + x) % 2 ^ 64) (steps-are h p s a (omega arith)))
-      (eL ∙ ap (λ x. (line + p.low + x) % 2 ^ 32) (over-is h p s a (omega arith)).1) in
-      special_makes h ops t l above q (sym r)
+      (eT ∙ ap (λ x. (addr + x) % 2 ^ 64) (steps-are p a (omega arith)))
+      (eL ∙ ap (λ x. (line + p.low + x) % 2 ^ 32) (over-is p a (omega arith)).1) in
+      special_makes p.header ops t l above q (sym r)
 
 -- ---- the run, where the state is the last row made
 

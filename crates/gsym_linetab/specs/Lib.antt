@@ -1,4 +1,5 @@
 pub mod Machine
+pub mod Unread
 pub mod Rows
 pub mod RowFor
 pub mod Quick

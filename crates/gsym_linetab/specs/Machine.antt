@@ -65,6 +65,10 @@ advance_pc ops r at = do
 abbrev pub line_after : LineNumber → ℤ → LineNumber
 line_after line change = record { 0 = (line.0 + cast_unsigned w64 change) % 2 ^ 32 }
 
+-- an address moved by a signed 64-bit number of bytes, modulo 2^64
+abbrev pub addr_after : Address → ℤ → Address
+addr_after addr steps = record { 0 = (addr.0 + cast_unsigned w64 steps) % 2 ^ 64 }
+
 -- opcode 3
 unfoldable pub advance_line : List ℕ → LineTableRow → ℕ → Result LineState Ending
 advance_line ops r at = do
@@ -81,7 +85,7 @@ unfoldable pub special_of : LineTableHeader → LineTableRow → ℕ → ℕ →
 special_of h r a n = do
   need (not (int_eq (range_of h) (pos 0))) Stopped
   Ok (state
-      ((r.addr.0 + cast_unsigned w64 (int_div (pos a) (range_of h))) % 2 ^ 64)
+      (addr_after r.addr (int_div (pos a) (range_of h))).0
       r.file_idx.0
       (line_after r.file_line (int_wrap w64 (h.min_delta +ℤ int_rem (pos a) (range_of h)))).0
       n)
@@ -97,12 +101,28 @@ a_row ran = do
   t ← ran
   Ok (run.NewRow t)
 
+-- the opcodes: the end, the file, the address, the line; and the first special one, above which all others are
+abbrev pub op_end : ℕ
+op_end = 0
+
+abbrev pub op_file : ℕ
+op_file = 1
+
+abbrev pub op_address : ℕ
+op_address = 2
+
+abbrev pub op_line : ℕ
+op_line = 3
+
+abbrev pub first_special : ℕ
+first_special = 4
+
 -- the opcode at a state's place, if there is a byte
 unfoldable pub step_of : LineTableHeader → List ℕ → LineState → Result RunResult Ending
 step_of h ops t = do
   op ← given UsedUp (slice_get ops t.at)
-  if op == 0 then Err (EndSequence (t.at + 1))
-      else if op == 1 then no_row (set_file ops t.row (t.at + 1))
-      else if op == 2 then a_row (advance_pc ops t.row (t.at + 1))
-      else if op == 3 then no_row (advance_line ops t.row (t.at + 1))
-      else a_row (special_of h t.row (op - 4) (t.at + 1))
+  if op == op_end then Err (EndSequence (t.at + 1))
+      else if op == op_file then no_row (set_file ops t.row (t.at + 1))
+      else if op == op_address then a_row (advance_pc ops t.row (t.at + 1))
+      else if op == op_line then no_row (advance_line ops t.row (t.at + 1))
+      else a_row (special_of h t.row (op - first_special) (t.at + 1))

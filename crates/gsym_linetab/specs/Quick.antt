@@ -5,17 +5,16 @@ use Rattle.std.specs.Int.{w64, cast_unsigned}
 use Rattle.gsym_linetab.specs.declared.LineTableHeader.{LineTableHeader}
 use Rattle.gsym_linetab.specs.declared.LineTableRow.{LineTableRow}
 use Rattle.gsym_linetab.specs.declared.LineState.{LineState}
-use Rattle.gsym_linetab.specs.declared.quick.Plan.{Plan}
 use Rattle.gsym_linetab.specs.Machine.{range_of}
 use Rattle.gsym_linetab.specs.Rows.{run_of, with_row}
 
 -- the range of a header is from 1 to 255, the factor is that of the range, and `low` is min modulo 2^32
-pub record IsPlanFor (h : LineTableHeader) (p : Plan) : Type 0 where
-  pub some : 0 < p.range
-  pub few : p.range < 256
-  pub whole : range_of h ≡ pos p.range
-  pub times : p.factor ≡ 65536 / p.range + 1
-  pub least : p.low ≡ cast_unsigned w64 h.min_delta % 2 ^ 32
+pub record IsPlanFor (h : LineTableHeader) (range factor low : ℕ) : Type 0 where
+  pub some : 0 < range
+  pub few : range < 256
+  pub whole : range_of h ≡ pos range
+  pub times : factor ≡ 65536 / range + 1
+  pub least : low ≡ cast_unsigned w64 h.min_delta % 2 ^ 32
 
 -- the last row made, where that is the state t: none at the place where the program starts
 abbrev pub row_before : ℕ → LineState → Option LineTableRow

@@ -22,7 +22,7 @@ pub fn whole_table()
 
 /// A program may be left and gone on with: from a state that its run for an address reaches, the row is the one from its
 /// start. It is none where no row was made before the end, the state there where one was, and the last row made where
-/// the next is above the address.
+/// the next is above the address (RULES, "Line table").
 #[tactic(auto, using(crate::proofs::Reach::resumed, crate::proofs::Reach::none_made, crate::proofs::Reach::present_state, crate::proofs::Reach::row_before))]
 pub fn left_and_gone_on_with(header: LineTableHeader, ops: &[u8], start: LineState, addr: Address)
     ensures resumed { (last : Option LineTableRow) (state : LineState)

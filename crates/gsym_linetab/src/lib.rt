@@ -6,9 +6,10 @@ mod laws;
 mod opcode;
 mod quick;
 
-ghost use Rattle.std.specs.Prelude.{◌≡◌, ◌↔◌, IfOk, IsErrOf, Ok};
-ghost use Rattle.gsym_linetab.specs.declared.Ending.TheVariants.{Stopped};
+ghost use Rattle.std.specs.Prelude.{◌≡◌, ◌↔◌, ◌≤◌, IfOk, IsErrOf, Ok, Err, length};
+ghost use Rattle.gsym_linetab.specs.declared.Ending.TheVariants.{Stopped, UsedUp};
 ghost use Rattle.gsym_linetab.specs.Machine.{header_of, start_row, step_of};
+ghost use Rattle.gsym_linetab.specs.Unread.{IsUnread, IsStop};
 ghost use Rattle.gsym_linetab.specs.Rows.{Run, run_of, row_for, row_from, table_of, line_row};
 ghost use Rattle.gsym_linetab.specs.RowFor.{IsRowFor};
 
@@ -35,7 +36,8 @@ const ADVANCE_LINE: u8 = 3;
 /// This opcode and all above it change line and address and make a row.
 const FIRST_SPECIAL: u8 = 4;
 
-/// What stands before the program: which line changes special opcodes make, and the line at the symbol's address.
+/// What stands before the program: which line changes special opcodes make, and the line at the symbol's address (RULES,
+/// "Line table").
 #[derive(Clone, Copy, Debug, PartialEq, Eq, Default, Hash)]
 pub struct LineTableHeader {
     /// The least line change of a special opcode.
@@ -46,7 +48,8 @@ pub struct LineTableHeader {
     pub first_line: LineNumber,
 }
 
-/// A row of the table: from this address on, up to the next row's, the code is of this file and line.
+/// A row of the table: from this address on, up to the next row's, the code is of this file and line (RULES, "Line
+/// table").
 #[derive(Clone, Copy, Debug, PartialEq, Eq, Default, Hash)]
 pub struct LineTableRow {
     /// The first address of the row.
@@ -57,7 +60,7 @@ pub struct LineTableRow {
     pub file_line: LineNumber,
 }
 
-/// The machine between two opcodes. A caller may keep it and go on from it later.
+/// The machine between two opcodes (RULES, "Line table"). A caller may keep it and go on from it later.
 #[derive(Clone, Copy, Debug, PartialEq, Eq, Default, Hash)]
 pub struct LineState {
     /// Address, file and line as the opcodes so far left them.
@@ -66,7 +69,7 @@ pub struct LineState {
     pub at: usize,
 }
 
-/// What an opcode did that ran.
+/// What an opcode did that ran (RULES, "Line table").
 // No flag beside the state, which could be left unasked.
 #[derive(Clone, Copy, Debug, PartialEq, Eq, Hash)]
 pub enum RunResult {
@@ -76,12 +79,13 @@ pub enum RunResult {
     NewRow(LineState),
 }
 
-/// Why a program ended. None of these is a refusal.
+/// Why a program ended (RULES, "Line table"). None of these is a refusal.
 #[derive(Clone, Copy, Debug, PartialEq, Eq, Hash)]
 pub enum Ending {
     /// Opcode 0, with the place after it.
     EndSequence(usize),
     /// A special opcode where the range is 0, or an operand that doesn't read.
+    // No Option here or at the next: each is one ending beside others.
     Stopped,
     /// There is no byte at the place of the next opcode.
     UsedUp,
@@ -99,7 +103,8 @@ impl From<Cause> for Ending {
 /// is too wide: the first number that doesn't read decides (RULES, "Line table").
 #[tactic(auto, unfolding(crate::specs::Machine::header_of))]
 pub fn parse(block: &[u8], at: usize) -> Result<(LineTableHeader, usize), Cause>
-    ensures { result ≡ header_of block.now at }
+    ensures exact { result ≡ header_of block.now at }
+    ensures refused { (cause : Cause) → IsErrOf result cause ↔ IsUnread block.now at cause }
 {
     let (min_delta, max_at) = gsym_leb128::signed_at(block, at)?;
     let (max_delta, line_at) = gsym_leb128::signed_at(block, max_at)?;
@@ -113,7 +118,7 @@ pub fn parse(block: &[u8], at: usize) -> Result<(LineTableHeader, usize), Cause>
     Ok((header, next))
 }
 
-/// The state's row before the first opcode: the symbol's address, file 1, the header's first line.
+/// The state's row before the first opcode: the symbol's address, file 1, the header's first line (RULES, "Line table").
 pub fn from_header(header: LineTableHeader, symbol: Address) -> LineTableRow
     ensures { result ≡ start_row header symbol }
 {
@@ -124,10 +129,13 @@ pub fn from_header(header: LineTableHeader, symbol: Address) -> LineTableRow
     }
 }
 
-/// Runs the opcode at the state's place, or says why the program ends there. A place past the end is `UsedUp`.
+/// Runs the opcode at the state's place, or says why the program ends there (RULES, "Line table"). A place past the end
+/// is `UsedUp`.
 #[tactic(auto, using(std::proofs::lemmas::Option::gets, std::proofs::lemmas::Bool::Decides::nat_tests), unfolding(crate::specs::Machine::step_of))]
 pub fn run_op(header: LineTableHeader, ops: &[u8], state: LineState) -> Result<RunResult, Ending>
-    ensures { result ≡ step_of header ops.now state }
+    ensures exact { result ≡ step_of header ops.now state }
+    ensures stopped { (result ≡ Err Stopped) ↔ IsStop header ops.now state }
+    ensures used_up { (result ≡ Err UsedUp) ↔ (length ops.now ≤ state.at) }
 {
     let at = state.at;
     let row = state.row;
@@ -148,7 +156,7 @@ pub fn run_op(header: LineTableHeader, ops: &[u8], state: LineState) -> Result<R
 
 /// The row of `addr` in the program from `start` on, before which no row was made: the one before the first row above
 /// `addr`, none if that is the first made; where no row is above it, the state at the program's end, with any change of
-/// file or line made after the last row, and none if no row was made.
+/// file or line made after the last row, and none if no row was made (RULES, "Line table").
 #[tactic(auto, using(crate::proofs::Choice::chosen_from, crate::proofs::Choice::none_is))]
 pub fn row_for(
     header: LineTableHeader,
@@ -165,11 +173,12 @@ pub fn row_for(
     if 0 < range && range < 256 {
         // The quick way, row by row.
         let plan = Plan {
+            header,
             range,
             factor: 65536 / range + 1,
             low: header.min_delta.cast_unsigned() % 0x1_0000_0000,
         };
-        return quick_rows(header, ops, first, addr, plan);
+        return quick_rows(ops, first, addr, plan);
     }
     row_by_op(header, ops, None, start, addr)
 }
@@ -208,7 +217,7 @@ fn row_by_op(
 }
 
 /// The row of `addr` in a whole table of the symbol at `symbol`: the header at 0, and the program behind it. None where
-/// no row covers `addr`; the cause where the header doesn't read.
+/// no row covers `addr`; the cause where the header doesn't read (RULES, "Line table").
 #[tactic(auto, unfolding(crate::specs::Rows::line_row, crate::specs::Rows::table_of))]
 pub fn line_row(block: &[u8], symbol: Address, addr: Address) -> Result<Option<LineTableRow>, Cause>
     ensures refused { (cause : Cause) → IsErrOf result cause ↔ IsErrOf (table_of block.now symbol) cause }

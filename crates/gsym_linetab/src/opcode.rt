@@ -1,6 +1,6 @@
 //! What each opcode does to a row (RULES, "Line table"). An operand that doesn't read stops the program.
-ghost use Rattle.std.specs.Prelude.{◌≡◌};
-ghost use Rattle.gsym_linetab.specs.Machine.{set_file, advance_pc, advance_line, line_after, range_of, special_of};
+ghost use Rattle.std.specs.Prelude.{◌≡◌, ◌≢◌, pos, int_div, int_rem};
+ghost use Rattle.gsym_linetab.specs.Machine.{set_file, advance_pc, advance_line, line_after, addr_after, range_of, special_of};
 
 use super::{Ending, LineState, LineTableHeader, LineTableRow};
 use gsym_types::{Address, FileIndex, LineNumber};
@@ -52,19 +52,44 @@ fn line_after(line: LineNumber, change: i64) -> LineNumber
     LineNumber(line.0.wrapping_add(low))
 }
 
+// The address moved by a signed number of bytes, modulo 2^64.
+fn addr_after(addr: Address, steps: i64) -> Address
+    ensures { result ≡ addr_after addr steps }
+{
+    Address(addr.0.wrapping_add_signed(steps))
+}
+
 // How many line changes the special opcodes tell apart: max - min + 1, as a signed 64-bit number.
 #[tactic(auto, using(crate::proofs::Numbers::range_is), unfolding(crate::specs::Machine::range_of))]
 pub(crate) fn range_of(header: LineTableHeader) -> i64
     ensures { result ≡ range_of header }
 {
-    header
-        .max_delta
-        .wrapping_sub(header.min_delta)
-        .wrapping_add(1)
+    let span = header.max_delta.wrapping_sub(header.min_delta);
+    span.wrapping_add(1)
+}
+
+// How far the opcode `a` above the first special one moves the address: rounded toward zero.
+#[tactic(auto, using(crate::proofs::Numbers::quotient_is))]
+fn quotient(a: u8, range: i64) -> i64
+    requires { range ≢ pos 0 }
+    ensures { result ≡ int_div (pos a) range }
+{
+    let a = a as i64;
+    a / range
+}
+
+// How far it moves the line beyond min: what that quotient leaves.
+#[tactic(auto, using(crate::proofs::Numbers::remainder_is))]
+fn remainder(a: u8, range: i64) -> i64
+    requires { range ≢ pos 0 }
+    ensures { result ≡ int_rem (pos a) range }
+{
+    let a = a as i64;
+    a % range
 }
 
 // A special opcode, `a` above the first one. A range of 0 stops the program; a negative one moves the address back.
-#[tactic(auto, unfolding(crate::specs::Machine::special_of))]
+#[tactic(auto, using(crate::proofs::Numbers::specials))]
 pub(crate) fn special(
     header: LineTableHeader,
     row: LineTableRow,
@@ -77,10 +102,9 @@ pub(crate) fn special(
     if range == 0 {
         return Err(Ending::Stopped);
     }
-    let a = a as i64;
-    let delta = header.min_delta.wrapping_add(a % range);
+    let delta = header.min_delta.wrapping_add(remainder(a, range));
     let row = LineTableRow {
-        addr: Address(row.addr.0.wrapping_add_signed(a / range)),
+        addr: addr_after(row.addr, quotient(a, range)),
         file_line: line_after(row.file_line, delta),
         ..row
     };

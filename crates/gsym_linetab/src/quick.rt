@@ -3,6 +3,7 @@
 //! multiplies by a factor where `run_op` divides. What else stands in a program, and its end, is left to `row_by_op`,
 //! which goes on from the last row.
 ghost use Rattle.std.specs.Prelude.{◌≡◌, ◌<◌, ◌≤◌, length, slice_index, Some, IfSome};
+ghost use Rattle.gsym_linetab.specs.declared.LineTableHeader.{LineTableHeader};
 ghost use Rattle.gsym_linetab.specs.Quick.{IsPlanFor, LeadsToMaker, MakesNoRow, MakesNextRow, row_before};
 ghost use Rattle.gsym_linetab.specs.Rows.{row_for};
 
@@ -13,14 +14,15 @@ use super::{
 use crate::opcode::{advance_line, advance_pc, set_file};
 use gsym_types::{Address, LineNumber};
 
-// What special opcodes go by in one program: the range, the factor that divides a byte by it, and min modulo 2^32. The
-// functions below that take a plan take the header that it is of for their contracts, in which each names it. Nothing
-// prints or compares a plan.
+// A header, and what special opcodes of its program go by: the range, the factor that divides a byte by it, and min
+// modulo 2^32. Nothing prints or compares a plan.
 #[derive(Clone, Copy)]
 pub(crate) struct Plan {
+    pub header: LineTableHeader,
     pub range: u64,
     pub factor: u64,
     pub low: u64,
+    ghost planned: { IsPlanFor header range factor low },
 }
 
 // The state at the first opcode from `start` on that may make a row, with the files set and the lines changed before
@@ -52,11 +54,10 @@ pub(crate) fn first_maker(ops: &[u8], start: LineState) -> Option<LineState>
 
 // The row of the special opcode at the state's place. The quotient is a product and a shift, exact for a byte and the
 // plan's factor.
-fn special_row(header: LineTableHeader, ops: &[u8], state: LineState, plan: Plan) -> LineState
+fn special_row(ops: &[u8], state: LineState, plan: Plan) -> LineState
     requires there { state.at < length ops.now }
     requires special { 4 ≤ slice_index ops.now state.at }
-    requires planned { IsPlanFor header plan }
-    ensures { MakesNextRow header ops.now state (Some result) }
+    ensures { MakesNextRow plan.header ops.now state (Some result) }
 {
     let at = state.at;
     let row = state.row;
@@ -104,9 +105,9 @@ fn line_to(ops: &[u8], state: LineState) -> Option<LineState>
     advance_line(ops, state.row, state.at + 1).ok()
 }
 
-// The row of opcode 2, if that stands at the state's place. None: nothing is said.
-fn pc_row(header: LineTableHeader, ops: &[u8], state: LineState) -> Option<LineState>
-    ensures { MakesNextRow header ops.now state result }
+// The row of opcode 2, if that stands at the state's place, whatever the header. None: nothing is said.
+fn pc_row(ops: &[u8], state: LineState) -> Option<LineState>
+    ensures { (header : LineTableHeader) → MakesNextRow header ops.now state result }
 {
     if ops.len() <= state.at || ops[state.at] != ADVANCE_PC {
         return None;
@@ -119,39 +120,38 @@ fn pc_row(header: LineTableHeader, ops: &[u8], state: LineState) -> Option<LineS
 }
 
 // The next row, where the file is set already: a special opcode, or a change of the line and opcode 2.
-fn near_row(header: LineTableHeader, ops: &[u8], state: LineState, plan: Plan) -> Option<LineState>
-    requires { IsPlanFor header plan }
-    ensures { MakesNextRow header ops.now state result }
+fn near_row(ops: &[u8], state: LineState, plan: Plan) -> Option<LineState>
+    ensures { MakesNextRow plan.header ops.now state result }
 {
     if ops.len() <= state.at {
         return None;
     }
     if FIRST_SPECIAL <= ops[state.at] {
-        return Some(special_row(header, ops, state, plan));
+        return Some(special_row(ops, state, plan));
     }
     let moved = line_to(ops, state)?;
-    pc_row(header, ops, moved)
+    pc_row(ops, moved)
 }
 
 // The next row. Most are of a special opcode alone, so that is asked for first.
-fn next_row(header: LineTableHeader, ops: &[u8], state: LineState, plan: Plan) -> Option<LineState>
-    requires { IsPlanFor header plan }
-    ensures { MakesNextRow header ops.now state result }
+fn next_row(ops: &[u8], state: LineState, plan: Plan) -> Option<LineState>
+    ensures { MakesNextRow plan.header ops.now state result }
 {
     if ops.len() <= state.at {
         return None;
     }
     if FIRST_SPECIAL <= ops[state.at] {
-        return Some(special_row(header, ops, state, plan));
+        return Some(special_row(ops, state, plan));
     }
     let set = file_to(ops, state)?;
-    near_row(header, ops, set, plan)
+    near_row(ops, set, plan)
 }
 
 // The last row made, where that is the state: none at the place where the program starts.
 fn row_before(start: usize, state: LineState) -> Option<LineTableRow>
     ensures { result ≡ row_before start state }
 {
+    // By `if`: `then_some` copies the row in either case, 0.7 instructions a line table more.
     if start < state.at {
         return Some(state.row);
     }
@@ -161,21 +161,19 @@ fn row_before(start: usize, state: LineState) -> Option<LineTableRow>
 // The row of `addr` in the program from `start` on, as `row_by_op` has it.
 #[tactic(auto, using(crate::proofs::Quickly::quickly))]
 pub(crate) fn quick_rows(
-    header: LineTableHeader,
     ops: &[u8],
     start: LineState,
     addr: Address,
     plan: Plan,
 ) -> Option<LineTableRow>
-    requires { IsPlanFor header plan }
-    ensures { result ≡ row_for header ops.now start addr }
+    ensures { result ≡ row_for plan.header ops.now start addr }
 {
     let mut state = start;
     // A turn takes a row, of one opcode or of several: it is no element of a slice.
     'rows: loop {
-        let Some(made) = next_row(header, ops, state, plan) else {
+        let Some(made) = next_row(ops, state, plan) else {
             let before = row_before(start.at, state);
-            return row_by_op(header, ops, before, state, addr);
+            return row_by_op(plan.header, ops, before, state, addr);
         };
         if addr.0 < made.row.addr.0 {
             return row_before(start.at, state);

@@ -2,8 +2,10 @@
 -- table that never falls the last entry that isn't above, and no other index fits.
 -- Assumes nothing.
 use Rattle.std.proofs.Common.{Option, Some, None, ◌≡◌, ℕ, zero, suc, ◌+◌, ◌-◌, ◌/◌, ◌<◌, ◌≤◌, ◌⊎◌, List, length, get_or, refl, ap, subst, inl, inr, ⊎_elim, arith, le-leb}
+use Rattle.std.specs.List.Sorted.{IsNonDecreasing, IsStrictlyIncreasing}
+use Rattle.std.proofs.lemmas.List.Sorted.{IsNonDecreasingBy-from_default}
 use Rattle.std.proofs.lemmas.Bool.{cases_lt, lt-leb}
-use Rattle.gsym_parser.specs.Search.{halving, chosen_from, find_in, Chosen, Right, NeverFalls, Rises, LastNotAbove}
+use Rattle.gsym_parser.specs.Search.{halving, chosen_from, find_in, Chosen, Right, LastNotAbove}
 use Rattle.gsym_parser.proofs.Halving.{find-empty, find-above, find_at}
 
 module _ (table : List ℕ) (wanted : ℕ) where
@@ -15,7 +17,7 @@ module _ (table : List ℕ) (wanted : ℕ) where
       → Chosen table wanted lo
   at-end lo len p q f n b =
       let e : lo + len ≡ lo + 1 = omega arith in
-      record { inside = omega arith; not-above = n; last = ends (subst Ended e b) }
+      record { inside = omega arith; not_above = n; last = ends (subst Ended e b) }
     where
       ends : Ended (lo + 1) → (lo + 1 ≡ length table) ⊎ (wanted < get_or table (lo + 1) 0)
       ends (inl g) = inl g
@@ -86,44 +88,43 @@ module _ (table : List ℕ) (wanted : ℕ) where
   unknown-why e = subst (Right table wanted) e chosen
 
   -- on a table that never falls
-  module _ (up : NeverFalls table) where
-    up_to : (i d : ℕ) → i + d < length table → get_or table i 0 ≤ get_or table (i + d) 0
-    up_to i zero h = let e : i ≡ i + 0 = omega arith in omega (arith, ap (λ x. get_or table x 0) e)
-    up_to i (suc d) h =
-        let e : i + d + 1 ≡ i + suc d = omega arith in
-        let s : get_or table (i + d) 0 ≤ get_or table (i + suc d) 0 =
-        subst (λ x. get_or table (i + d) 0 ≤ get_or table x 0) e (up (i + d) (omega arith)) in
-        omega (arith, up_to i d (omega arith))
-
-    pub never-falls-between : (i j : ℕ) → i ≤ j → j < length table → get_or table i 0 ≤ get_or table j 0
-    never-falls-between i j h l =
-        let e : i + (j - i) ≡ j = omega arith in
-        subst (λ x. get_or table i 0 ≤ get_or table x 0) e (up_to i (j - i) (omega arith))
-
+  module _ (up : IsNonDecreasing table) where
     pub chosen_last : (i : ℕ) → Chosen table wanted i → LastNotAbove table wanted i
-    chosen_last i h = record { inside = h.inside; not-above = h.not-above; above-after = after h.last }
+    chosen_last i h = record { inside = h.inside; not_above = h.not_above; above_after = after h.last }
       where
         after :
             (i + 1 ≡ length table) ⊎ (wanted < get_or table (i + 1) 0) →
             (j : ℕ) → i < j → j < length table → wanted < get_or table j 0
         after (inl e) j l m = absurd (omega arith)
-        after (inr g) j l m = omega (arith, never-falls-between (i + 1) j (omega arith) m)
+        after (inr g) j l m = omega (arith, up (i + 1) j 0 (omega arith) m)
 
     module _ (i : ℕ) (h : Chosen table wanted i) where
       same : (f : Option ℕ) → Right table wanted f → f ≡ Some i
       same (Some j) r = ap Some (by (cases_lt i j) (cases_lt j i))
         where
           by : (i < j) ⊎ (j ≤ i) → (j < i) ⊎ (i ≤ j) → j ≡ i
-          by (inl l) b = absurd (omega (arith, (chosen_last i h).above-after j l r.1.inside, r.1.not-above))
-          by (inr l) (inl m) = absurd (omega (arith, (chosen_last j r.1).above-after i m h.inside, h.not-above))
+          by (inl l) b = absurd (omega (arith, (chosen_last i h).above_after j l r.1.inside, r.1.not_above))
+          by (inr l) (inl m) = absurd (omega (arith, (chosen_last j r.1).above_after i m h.inside, h.not_above))
           by (inr l) (inr m) = omega arith
       same None (inl e) = absurd (omega (arith, h.inside))
       same None (inr g) =
-          absurd (omega (arith, never-falls-between 0 i (omega arith) h.inside, h.not-above))
+          absurd (omega (arith, up 0 i 0 (omega arith) h.inside, h.not_above))
 
       -- an index that fits is the one that is answered, so no other fits
       pub chosen-unique : find_in table wanted ≡ Some i
       chosen-unique = same (find_in table wanted) chosen
 
-pub rises-never-falls : (table : List ℕ) → Rises table → NeverFalls table
-rises-never-falls table up i h = omega (arith, up i h)
+module _ (table : List ℕ) (up : IsStrictlyIncreasing table) where
+  up_to : (i d : ℕ) → i + d < length table → get_or table i 0 ≤ get_or table (i + d) 0
+  up_to i zero h = let e : i ≡ i + 0 = omega arith in omega (arith, ap (λ x. get_or table x 0) e)
+  up_to i (suc d) h =
+      let e : i + d + 1 ≡ i + suc d = omega arith in
+      let s : get_or table (i + d) 0 < get_or table (i + suc d) 0 =
+      subst (λ x. get_or table (i + d) 0 < get_or table x 0) e (up (i + d) (omega arith)) in
+      omega (arith, up_to i d (omega arith))
+
+  pub rises-never-falls : IsNonDecreasing table
+  rises-never-falls =
+      IsNonDecreasingBy-from_default (λ x. x) table 0 (λ i j h l.
+      let e : i + (j - i) ≡ j = omega arith in
+      subst (λ x. get_or table i 0 ≤ get_or table x 0) e (up_to i (j - i) (omega arith)))

@@ -1,9 +1,10 @@
 -- What `find_addr` ensures, of the index that the search gives and the entry beside it.
 -- Assumes nothing.
 use Rattle.std.proofs.Common.{Option, Some, None, ◌≡◌, ◌∙◌, ℕ, ◌+◌, ◌-◌, ◌^◌, ◌<◌, ◌≤◌, get_or, subst, sym, refl, ap, arith}
+use Rattle.std.specs.List.Sorted.{IsNonDecreasing}
 use Rattle.gsym_types.specs.declared.Address.{Address}
 use Rattle.gsym_parser.specs.View.{View}
-use Rattle.gsym_parser.specs.Search.{entries_of, find_of, with_entry, land_of, addresses_of, Right, NeverFalls, Chosen, LastNotAbove, Nowhere}
+use Rattle.gsym_parser.specs.Search.{entries_of, find_of, with_entry, land_of, addresses_of, Right, Chosen, LastNotAbove, Nowhere}
 use Rattle.gsym_parser.specs.Entries.{symbol_at}
 use Rattle.gsym_parser.proofs.Choice.{chosen, chosen_last, chosen-unique}
 use Rattle.gsym_parser.proofs.Lands.{find-address}
@@ -17,7 +18,7 @@ module _ (v : View) (addr : Address) where
       (chosen (entries_of v) (addr.0 - v.tables.base.0))
 
   pub found_only :
-      NeverFalls (entries_of v) → v.tables.base.0 ≤ addr.0 → (i : ℕ) →
+      IsNonDecreasing (entries_of v) → v.tables.base.0 ≤ addr.0 → (i : ℕ) →
       Chosen (entries_of v) (addr.0 - v.tables.base.0) i → find_of v addr ≡ Some i
   found_only up le i h =
       find-in-table v addr le ∙ chosen-unique (entries_of v) (addr.0 - v.tables.base.0) up i h
@@ -43,11 +44,11 @@ module _ (v : View) (addr : Address) where
     none_right le = subst (Right (entries_of v) (addr.0 - v.tables.base.0)) (sym search_none) (found_right le)
 
     pub none_only :
-        NeverFalls (entries_of v) → v.tables.base.0 ≤ addr.0 → (i : ℕ) →
+        IsNonDecreasing (entries_of v) → v.tables.base.0 ≤ addr.0 → (i : ℕ) →
         Chosen (entries_of v) (addr.0 - v.tables.base.0) i → None ≡ Some i
     none_only up le i h = search_none ∙ found_only up le i h
 
-    pub none_lands : NeverFalls (entries_of v) → None ≡ land_of (addresses_of v) addr.0
+    pub none_lands : IsNonDecreasing (entries_of v) → None ≡ land_of (addresses_of v) addr.0
     none_lands up = search_none ∙ find-address v addr up
 
     pub none_nowhere : Nowhere v addr
@@ -62,11 +63,11 @@ module _ (v : View) (addr : Address) where
     some_right le = subst (Right (entries_of v) (addr.0 - v.tables.base.0)) (sym search_some) (found_right le)
 
     pub some_only :
-        NeverFalls (entries_of v) → v.tables.base.0 ≤ addr.0 → (j : ℕ) →
+        IsNonDecreasing (entries_of v) → v.tables.base.0 ≤ addr.0 → (j : ℕ) →
         Chosen (entries_of v) (addr.0 - v.tables.base.0) j → Some i ≡ Some j
     some_only up le j h = search_some ∙ found_only up le j h
 
-    pub some_lands : NeverFalls (entries_of v) → Some i ≡ land_of (addresses_of v) addr.0
+    pub some_lands : IsNonDecreasing (entries_of v) → Some i ≡ land_of (addresses_of v) addr.0
     some_lands up = search_some ∙ find-address v addr up
 
     pub some_nowhere : Nowhere v addr → ⊥
@@ -81,10 +82,10 @@ module _ (v : View) (addr : Address) where
           arith,
           search_entry,
           find-base v addr i (sym search_some),
-          (find-chosen v addr i (sym search_some)).not-above,
+          (find-chosen v addr i (sym search_some)).not_above,
         )
 
-    pub search_last : NeverFalls (entries_of v) → LastNotAbove (entries_of v) (addr.0 - v.tables.base.0) i
+    pub search_last : IsNonDecreasing (entries_of v) → LastNotAbove (entries_of v) (addr.0 - v.tables.base.0) i
     search_last up =
         chosen_last (entries_of v) (addr.0 - v.tables.base.0) up i (find-chosen v addr i (sym search_some))
 

@@ -3,12 +3,13 @@
 -- Assumes nothing.
 use Rattle.std.proofs.Common.{Option, Some, None, ◌≡◌, ℕ, zero, suc, ◌+◌, ◌-◌, ◌<◌, ◌≤◌, leb, List, [], ◌∷◌, map, length, get_or, sym, refl, ap, ◌∙◌, inl, inr, ⊎_elim, arith, le-ltb, lt-ltb, le-leb, if◌then◌else◌}
 use lib.ListN.{length-map}
+use Rattle.std.specs.List.Sorted.{IsNonDecreasing}
 use Rattle.std.proofs.lemmas.Bool.{cases_lt, lt-leb}
 use Rattle.gsym_types.specs.declared.Address.{Address}
 use Rattle.gsym_parser.specs.View.{View}
 use Rattle.gsym_parser.specs.Search.{find_in, entries_of, find_of, land_from, land_of, addresses_of}
-use Rattle.gsym_parser.specs.Search.{Right, NeverFalls, LastNotAbove}
-use Rattle.gsym_parser.proofs.Choice.{chosen, chosen_last, never-falls-between}
+use Rattle.gsym_parser.specs.Search.{Right, LastNotAbove}
+use Rattle.gsym_parser.proofs.Choice.{chosen, chosen_last}
 
 -- every entry is above
 abbrev pub AllAbove : List ℕ → ℕ → Type 0
@@ -42,17 +43,17 @@ module _ (wanted : ℕ) where
   unfolding land_of
   land_last table i h =
       let q : 0 + i ≡ i = omega arith in
-      from_last 0 table None i h.inside h.not-above h.above-after ∙ ap Some q
+      from_last 0 table None i h.inside h.not_above h.above_after ∙ ap Some q
 
   -- the search is that
-  pub find-lands : (table : List ℕ) → NeverFalls table → find_in table wanted ≡ land_of table wanted
+  pub find-lands : (table : List ℕ) → IsNonDecreasing table → find_in table wanted ≡ land_of table wanted
   find-lands table up = go (find_in table wanted) (chosen table wanted)
     where
       go : (f : Option ℕ) → Right table wanted f → f ≡ land_of table wanted
       go (Some i) r = sym (land_last table i (chosen_last table wanted up i r.1))
       go None (inl e) = sym (land-none table (λ j l. absurd (omega arith)))
       go None (inr g) =
-          sym (land-none table (λ j l. omega (arith, never-falls-between table wanted up 0 j (omega arith) l)))
+          sym (land-none table (λ j l. omega (arith, up 0 j 0 (omega arith) l)))
 
 -- the same of addresses
 module _ (base : ℕ) (table : List ℕ) where
@@ -92,7 +93,7 @@ module _ (base : ℕ) (table : List ℕ) where
     land-moved h = moved-from 0 table None h
 
 module _ (v : View) (addr : Address) where
-  pub find-address : NeverFalls (entries_of v) → find_of v addr ≡ land_of (addresses_of v) addr.0
+  pub find-address : IsNonDecreasing (entries_of v) → find_of v addr ≡ land_of (addresses_of v) addr.0
   unfolding find_of addresses_of
   find-address up =
       ⊎_elim

@@ -27,10 +27,10 @@ placed_within file h t e =
       addrs = refl;
       offsets = refl;
       files = refl;
-      addrs-end = omega arith;
-      offsets-end = omega arith;
-      files-end = l;
-      strings-end = k;
+      addrs_end = omega arith;
+      offsets_end = omega arith;
+      files_end = l;
+      strings_end = k;
     } in
     rw (← ok_is _ _ strings.1) w
 

@@ -18,7 +18,7 @@ module _ (v : View) (w : Within v.file v.tables) where
   unfolding offset_at
   offset_reads i h =
       let at = v.tables.offsets + i * 4 in
-      let l : 4 ≤ length (drop at v.file) = omega (arith, w.offsets-end, length-drop at v.file) in
+      let l : 4 ≤ length (drop at v.file) = omega (arith, w.offsets_end, length-drop at v.file) in
       rw (lt-ltb _ _ h, u32_there (drop at v.file) l)
 
   -- a row of the file table at each index below the file count
@@ -32,7 +32,7 @@ module _ (v : View) (w : Within v.file v.tables) where
   unfolding file_at
   file_reads index h =
       let at = v.tables.files + index.0 * 8 in
-      let l : 4 ≤ length (drop at v.file) = omega (arith, w.files-end, length-drop at v.file) in
+      let l : 4 ≤ length (drop at v.file) = omega (arith, w.files_end, length-drop at v.file) in
       let m : 4 ≤ length (drop 4 (drop at v.file)) =
-      omega (arith, w.files-end, length-drop at v.file, length-drop 4 (drop at v.file)) in
+      omega (arith, w.files_end, length-drop at v.file, length-drop 4 (drop at v.file)) in
       rw (lt-ltb _ _ h, u32_there (drop at v.file) l, u32_there (drop 4 (drop at v.file)) m)

@@ -5,7 +5,7 @@ use Rattle.std.proofs.lemmas.Bool.{cases_lt}
 use Rattle.gsym_types.specs.declared.Address.{Address}
 use Rattle.gsym_parser.specs.View.{View}
 use Rattle.gsym_parser.specs.Search.{is_width, entries_of, find_in, find_of, Chosen, Nowhere}
-use Rattle.gsym_parser.specs.Search.{below-base, other-size, no-entries, first_above}
+use Rattle.gsym_parser.specs.Search.{below_base, other_size, no_entries, first_above}
 use Rattle.gsym_parser.specs.Entries.{symbol_at}
 use Rattle.gsym_parser.proofs.Table.{length-table, len-le, table_none, table-full}
 use Rattle.gsym_parser.proofs.Halving.{find-empty, find-above}
@@ -41,23 +41,23 @@ module _ (v : View) (addr : Address) where
     -- its symbol's address is the base plus the entry, and never exceeds the address
     pub symbol-is : addr.0 < 2 ^ 64 → (symbol_at v i).0 ≡ v.tables.base.0 + get_or (entries_of v) i 0
     unfolding symbol_at
-    symbol-is h = mod-eq_of_lt (omega (arith, find-base, find-chosen.not-above))
+    symbol-is h = mod-eq_of_lt (omega (arith, find-base, find-chosen.not_above))
 
     pub symbol-le : addr.0 < 2 ^ 64 → (symbol_at v i).0 ≤ addr.0
-    symbol-le h = omega (arith, symbol-is h, find-base, find-chosen.not-above)
+    symbol-le h = omega (arith, symbol-is h, find-base, find-chosen.not_above)
 
   -- unknown exactly in the cases of RULES
   no_table : length (entries_of v) ≡ 0 → Nowhere v addr
   no_table e = go (is_width v.tables.offset_size) refl
     where
       go : (b : Bool) → is_width v.tables.offset_size ≡ b → Nowhere v addr
-      go true q = no-entries (sym (table-full v q) ∙ e)
-      go false q = other-size q
+      go true q = no_entries (sym (table-full v q) ∙ e)
+      go false q = other_size q
 
   pub find-unknown : find_of v addr ≡ None → Nowhere v addr
   find-unknown e =
       ⊎_elim
-      (λ (l : addr.0 < v.tables.base.0). below-base l)
+      (λ (l : addr.0 < v.tables.base.0). below_base l)
       (λ (l : v.tables.base.0 ≤ addr.0).
       ⊎_elim
       (λ (z : length (entries_of v) ≡ 0). no_table z)
@@ -74,9 +74,9 @@ module _ (v : View) (addr : Address) where
       (cases_lt addr.0 v.tables.base.0)
 
   pub unknown-find : Nowhere v addr → find_of v addr ≡ None
-  unknown-find (below-base h) = find-below-base h
-  unknown-find (other-size h) = empty-unknown (table_none v h)
-  unknown-find (no-entries h) =
+  unknown-find (below_base h) = find-below-base h
+  unknown-find (other_size h) = empty-unknown (table_none v h)
+  unknown-find (no_entries h) =
       empty-unknown (omega (arith, length-table v, len-le v.tables.offset_size v.tables.count))
   unknown-find (first_above h) =
       ⊎_elim

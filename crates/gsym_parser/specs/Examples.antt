@@ -82,7 +82,7 @@ pub record SmallFile : Type 0 where
   pub cut :
       map (λ n. opened_of (take n file)) (0 ∷ 5 ∷ 47 ∷ 79 ∷ 84 ∷ [])
       ≡ Err TooFewBytes ∷ Err TooFewBytes ∷ Err TooFewBytes ∷ Err TooFewBytes ∷ Err TooFewBytes ∷ []
-  pub magic-first : opened_of (0x47 ∷ 0x53 ∷ 0x59 ∷ 0x4d ∷ []) ≡ Err WrongMagic
+  pub magic_first : opened_of (0x47 ∷ 0x53 ∷ 0x59 ∷ 0x4d ∷ []) ≡ Err WrongMagic
   pub version : opened_of (magic ++ (2 ∷ 0 ∷ [])) ≡ Err WrongVersion
   -- the entry of an address: below the base, on each entry, in front of the next, and far above
   pub entries :
@@ -105,7 +105,7 @@ pub record SmallFile : Type 0 where
   pub infos :
       map (info_at opened) (1 ∷ 2 ∷ 3 ∷ []) ≡ Some (record { size = 16; name = 3; bytes = list }) ∷ None ∷ None ∷ []
   pub row : file_at opened (record { 0 = 0 }) ≡ Some (record { directory = record { 0 = 1 }; filename = record { 0 = 3 } })
-  pub no-row : file_at opened (record { 0 = 1 }) ≡ None
+  pub no_row : file_at opened (record { 0 = 1 }) ≡ None
   -- the list, and the same cut in front of its end and inside its item
   pub items : items_of list ≡ record { kind = 1; bytes = 0xaa ∷ 0xbb ∷ [] } ∷ []
   pub torn : items_of (take 9 list) ≡ []

@@ -67,15 +67,15 @@ with_entry table index = option_map (λ i. (i, slice_index table i)) index
 
 -- the four cases of an unknown address
 pub data Nowhere (v : View) (addr : Address) : Type 0 where
-  below-base : addr.0 < v.tables.base.0 → Nowhere v addr
-  other-size : is_width v.tables.offset_size ≡ false → Nowhere v addr
-  no-entries : v.tables.count ≡ 0 → Nowhere v addr
+  below_base : addr.0 < v.tables.base.0 → Nowhere v addr
+  other_size : is_width v.tables.offset_size ≡ false → Nowhere v addr
+  no_entries : v.tables.count ≡ 0 → Nowhere v addr
   first_above : addr.0 - v.tables.base.0 < slice_index (entries_of v) 0 → Nowhere v addr
 
 -- entry i isn't above, and it is the last or the next one is above
 pub record Chosen (table : List ℕ) (wanted i : ℕ) : Type 0 where
   pub inside : i < length table
-  pub not-above : slice_index table i ≤ wanted
+  pub not_above : slice_index table i ≤ wanted
   pub last : (i + 1 ≡ length table) ⊎ (wanted < slice_index table (i + 1))
 
 -- what may be answered: an entry that fits, where the first isn't above; else unknown
@@ -83,18 +83,11 @@ abbrev pub Right : List ℕ → ℕ → Option ℕ → Type 0
 Right table wanted (Some i) = (slice_index table 0 ≤ wanted) × Chosen table wanted i
 Right table wanted None = (length table ≡ 0) ⊎ (wanted < slice_index table 0)
 
--- no entry is below the one before it; each is above the one before it
-abbrev pub NeverFalls : List ℕ → Type 0
-NeverFalls table = (i : ℕ) → i + 1 < length table → slice_index table i ≤ slice_index table (i + 1)
-
-abbrev pub Rises : List ℕ → Type 0
-Rises table = (i : ℕ) → i + 1 < length table → slice_index table i < slice_index table (i + 1)
-
 -- the last entry that isn't above
 pub record LastNotAbove (table : List ℕ) (wanted i : ℕ) : Type 0 where
   pub inside : i < length table
-  pub not-above : slice_index table i ≤ wanted
-  pub above-after : (j : ℕ) → i < j → j < length table → wanted < slice_index table j
+  pub not_above : slice_index table i ≤ wanted
+  pub above_after : (j : ℕ) → i < j → j < length table → wanted < slice_index table j
 
 -- the last entry of a table that isn't above, one entry after another: what the search comes to in a table that never
 -- falls

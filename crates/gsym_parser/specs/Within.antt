@@ -9,7 +9,7 @@ pub record Within (file : List ℕ) (t : Tables) : Type 0 where
   pub addrs : t.addrs ≡ 48
   pub offsets : t.offsets ≡ next_multiple_of (t.addrs + t.count * t.offset_size) 4
   pub files : t.files ≡ t.offsets + t.count * 4 + 4
-  pub addrs-end : t.addrs + t.count * t.offset_size ≤ length file
-  pub offsets-end : t.offsets + t.count * 4 ≤ length file
-  pub files-end : t.files + t.file_count * 8 ≤ length file
-  pub strings-end : t.strings.place + t.strings.size ≤ length file
+  pub addrs_end : t.addrs + t.count * t.offset_size ≤ length file
+  pub offsets_end : t.offsets + t.count * 4 ≤ length file
+  pub files_end : t.files + t.file_count * 8 ≤ length file
+  pub strings_end : t.strings.place + t.strings.size ≤ length file

@@ -1,26 +1,29 @@
 //! What an entry of the address table says: size and name of its symbol, and the bytes of its address data list; and the
 //! rows of the file table (RULES, "Header and tables" and "Finding the entry").
-ghost use Rattle.std.specs.Prelude.{◌≡◌, option_map};
+ghost use Rattle.std.specs.Prelude.{◌≡◌, ◌+◌, ◌<◌, ◌≤◌, ◌⊎◌, ◌↔◌, option_map, length, IsNone, IsSomeAnd};
 ghost use Rattle.gsym_parser.specs.Entries.{offset_at, info_at, info_view, covered_by, file_at};
 ghost use Rattle.gsym_parser.specs.View.{view};
 
 use super::GsymContext;
 use gsym_types::{Address, FileIndex, StrOffset};
 
-/// What an entry says of its symbol, and the bytes after that, to the file's end: its address data list stands at their
-/// front.
-#[derive(Clone, Copy, Debug, PartialEq, Eq, Hash)]
+/// What an entry says of its symbol (RULES, "Finding the entry").
+#[derive(Clone, Copy, Debug, PartialEq, Eq, Default, Hash)]
 pub struct AddrInfo<'a> {
     /// The symbol's size in bytes, 0 where it covers everything from its address on.
     pub size: u32,
+    /// The symbol's name.
     pub name: StrOffset,
+    /// The bytes after that, to the file's end: the address data list of the entry stands at their front.
     pub data: &'a [u8],
 }
 
-/// A row of the file table: where directory and file name start in the string table.
-#[derive(Clone, Copy, Debug, PartialEq, Eq, Hash)]
+/// A row of the file table (RULES, "Header and tables").
+#[derive(Clone, Copy, Debug, PartialEq, Eq, Default, Hash)]
 pub struct FileInfo {
+    /// The directory.
     pub directory: StrOffset,
+    /// The name of the file in it.
     pub filename: StrOffset,
 }
 
@@ -29,7 +32,9 @@ impl<'a> GsymContext<'a> {
     /// (RULES, "Finding the entry").
     #[tactic(auto, unfolding(crate::specs::Entries::info_at, crate::specs::Entries::info_in, gsym_reads::specs::Fronts::u32_front))]
     pub fn addr_info(&self, index: usize) -> Option<AddrInfo<'a>>
-        ensures { option_map info_view result ≡ info_at (view self.now) index }
+        ensures exact { option_map info_view result ≡ info_at (view self.now) index }
+        ensures none { IsNone result ↔ (self.now.tables.count ≤ index)
+            ⊎ IsSomeAnd (offset_at (view self.now) index) (λ place. length self.now.file.now < place + 8) }
     {
         let place = self.data_offset(index)?;
         let info = self.file.get(place as usize..)?;
@@ -45,7 +50,8 @@ impl<'a> GsymContext<'a> {
     // The data offset of an entry.
     #[tactic(auto, unfolding(crate::specs::Entries::offset_at, gsym_reads::specs::Fronts::u32_front))]
     fn data_offset(&self, index: usize) -> Option<u32>
-        ensures { result ≡ offset_at (view self.now) index }
+        ensures exact { result ≡ offset_at (view self.now) index }
+        ensures none { IsNone result ↔ (self.now.tables.count ≤ index) }
     {
         if index >= self.tables.count as usize {
             return None;
@@ -59,7 +65,8 @@ impl<'a> GsymContext<'a> {
     /// and tables").
     #[tactic(auto, unfolding(crate::specs::Entries::file_at, gsym_reads::specs::Fronts::u32_front))]
     pub fn file_info(&self, index: FileIndex) -> Option<FileInfo>
-        ensures { result ≡ file_at (view self.now) index }
+        ensures exact { result ≡ file_at (view self.now) index }
+        ensures none { IsNone result ↔ (self.now.tables.file_count ≤ index.0) }
     {
         if index.0 >= self.tables.file_count {
             return None;

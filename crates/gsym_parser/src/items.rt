@@ -2,17 +2,21 @@
 ghost use Rattle.std.specs.Prelude.{◌≡◌};
 ghost use Rattle.gsym_parser.specs.Items.{items_of, items_left};
 
-/// An item: its type, and its bytes.
-#[derive(Clone, Copy, Debug, PartialEq, Eq, Hash)]
+/// An item (RULES, "Address data list").
+#[derive(Clone, Copy, Debug, PartialEq, Eq, Default, Hash)]
 pub struct Item<'a> {
+    /// Its type, which is not 0: 1 is a line table, 2 an inline block, any other is passed over.
+    // The format's own number and no enum: of what it means nothing is known here.
     pub kind: u32,
+    /// Its bytes.
     pub bytes: &'a [u8],
 }
 
-/// The items that are still to come, in file order. The list ends at type 0, whatever follows it, and at an item that
-/// doesn't fit; neither is a refusal.
-#[derive(Clone, Copy, Debug, PartialEq, Eq, Hash)]
+/// The items that are still to come, in file order (RULES, "Address data list"). The list ends at type 0, whatever
+/// follows it, and at an item that doesn't fit; neither is a refusal.
+#[derive(Clone, Copy, Debug, PartialEq, Eq, Default, Hash)]
 pub struct Items<'a> {
+    /// The bytes that the next item stands at the front of.
     pub rest: &'a [u8],
 }
 

@@ -2,7 +2,8 @@
 //! clause is about the definitions alone.
 ghost use Rattle.gsym_parser.specs.Examples.{SmallFile};
 
-/// A file of three entries, written out: where its tables stand, the entries of addresses, and what they say.
+/// A file of three entries, written out: where its tables stand, the entries of addresses, and what they say (RULES,
+/// "Further examples").
 pub fn small_file()
     ensures { SmallFile }
 {}

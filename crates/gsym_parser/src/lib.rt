@@ -20,19 +20,19 @@ pub use items::{Item, Items, parse_address_data};
 pub use laws::small_file;
 pub use search::Found;
 
-/// The first four bytes of a file, as a number.
+/// The first four bytes of a file, as a number (RULES, "Header and tables").
 pub const MAGIC: u32 = 0x4753594d;
 
-/// The one version that is read.
+/// The one version that is read (RULES, "Header and tables").
 pub const VERSION: u16 = 1;
 
-/// How many bytes the header has, its 20 of the UUID included.
+/// How many bytes the header has, its 20 of the UUID included (RULES, "Header and tables").
 pub const HEADER_LEN: usize = 48;
 
 /// The header's numbers, and where each table stands (RULES, "Header and tables"). Places are counted in bytes from the
 /// file's start.
 // Places and not slices, since the places in answers count from the file's start too (DECISIONS, D12).
-#[derive(Clone, Copy, Debug, PartialEq, Eq, Hash)]
+#[derive(Clone, Copy, Debug, PartialEq, Eq, Default, Hash)]
 pub struct Tables {
     /// Bytes per entry of the address table, as the file has it: at other sizes than 1, 2, 4 and 8 no entry is found.
     pub offset_size: u8,
@@ -52,11 +52,13 @@ pub struct Tables {
     pub strings: StrTable,
 }
 
-/// An opened file: its bytes, and its tables, which lie within them.
+/// An opened file: its bytes, and its tables, which lie within them (RULES, "Header and tables").
 // No PartialEq: it lends a whole file, and no one compares two by their bytes.
 #[derive(Clone, Copy, Debug)]
 pub struct GsymContext<'a> {
+    /// The bytes of the file, which stay the caller's.
     pub file: &'a [u8],
+    /// Its header's numbers, and where its tables stand.
     pub tables: Tables,
     ghost within: { Within file.now tables },
 }

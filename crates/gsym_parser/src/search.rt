@@ -1,16 +1,19 @@
 //! The entry of an address: a halving search on the address table in place (RULES, "Finding the entry").
-ghost use Rattle.std.specs.Prelude.{◌≡◌, ◌+◌, ◌-◌, ◌*◌, ◌<◌, ◌≤◌, ◌↔◌, ℕ, true, Option, Some, length, drop, slice_index, slice_get, option_map, IsNone, IfSome};
-ghost use Rattle.gsym_parser.specs.Search.{is_width, entry_number, len_of, entries, find_in, find_of, entries_of, Nowhere, Right, NeverFalls, Chosen, LastNotAbove, with_entry, land_of, addresses_of};
+ghost use Rattle.std.specs.Prelude.{◌≡◌, ◌+◌, ◌-◌, ◌*◌, ◌<◌, ◌≤◌, ◌⊎◌, ◌↔◌, ℕ, true, false, Option, Some, length, drop, slice_index, slice_get, option_map, IsNone, IfSome};
+ghost use Rattle.std.specs.List.Sorted.{IsNonDecreasing};
+ghost use Rattle.gsym_parser.specs.Search.{is_width, entry_number, len_of, entries, find_in, find_of, entries_of, Nowhere, Right, Chosen, LastNotAbove, with_entry, land_of, addresses_of};
 ghost use Rattle.gsym_parser.specs.Entries.{symbol_at};
 ghost use Rattle.gsym_parser.specs.View.{view};
 
 use super::GsymContext;
 use gsym_types::Address;
 
-/// An entry of the address table that was found: its index, and its symbol's address.
-#[derive(Clone, Copy, Debug, PartialEq, Eq, Hash)]
+/// An entry of the address table that was found (RULES, "Finding the entry").
+#[derive(Clone, Copy, Debug, PartialEq, Eq, Default, Hash)]
 pub struct Found {
+    /// Its index, counted from 0.
     pub index: usize,
+    /// Where its symbol starts: the base plus the entry.
     pub symbol: Address,
 }
 
@@ -26,14 +29,14 @@ impl<'a> GsymContext<'a> {
         // The symbol's address isn't above the address.
         ensures below { IfSome result (λ f. f.symbol.0 ≤ addr.0) }
         // In a table that never falls: the last entry that isn't above,
-        ensures last { NeverFalls (entries_of (view self.now)) →
+        ensures last { IsNonDecreasing (entries_of (view self.now)) →
             IfSome result (λ f. LastNotAbove (entries_of (view self.now)) (addr.0 - self.now.tables.base.0) f.index) }
         // and no other entry fits.
-        ensures only { NeverFalls (entries_of (view self.now)) → self.now.tables.base.0 ≤ addr.0 → (i : ℕ) →
+        ensures only { IsNonDecreasing (entries_of (view self.now)) → self.now.tables.base.0 ≤ addr.0 → (i : ℕ) →
             Chosen (entries_of (view self.now)) (addr.0 - self.now.tables.base.0) i
             → option_map (λ f. f.index) result ≡ Some i }
         // It is the last that isn't above among the addresses of the entries, counted along them.
-        ensures lands { NeverFalls (entries_of (view self.now)) →
+        ensures lands { IsNonDecreasing (entries_of (view self.now)) →
             option_map (λ f. f.index) result ≡ land_of (addresses_of (view self.now)) addr.0 }
         // None exactly in the four cases of RULES.
         ensures none { IsNone result ↔ Nowhere (view self.now) addr }
@@ -42,9 +45,7 @@ impl<'a> GsymContext<'a> {
             × (f.symbol.0 ≡ self.now.tables.base.0 + slice_index (entries_of (view self.now)) f.index)) }
         ensures exact { option_map (λ f. f.index) result ≡ find_of (view self.now) addr }
     {
-        let Some((index, entry)) = self.search(addr) else {
-            return None;
-        };
+        let (index, entry) = self.search(addr)?;
         Some(Found {
             index,
             symbol: Address(self.tables.base.0 + entry),
@@ -69,7 +70,9 @@ impl<'a> GsymContext<'a> {
     /// count, and at an offset size other than 1, 2, 4 and 8 (RULES, "Finding the entry").
     #[tactic(auto, using(crate::proofs::Table::entry_past, crate::proofs::Table::entry_there))]
     pub fn entry(&self, index: usize) -> Option<u64>
-        ensures { result ≡ slice_get (entries_of (view self.now)) index }
+        ensures exact { result ≡ slice_get (entries_of (view self.now)) index }
+        ensures none { IsNone result
+            ↔ (self.now.tables.count ≤ index) ⊎ (is_width self.now.tables.offset_size ≡ false) }
     {
         let size = self.tables.offset_size;
         if index >= table_len(size, self.tables.count) {
@@ -95,7 +98,8 @@ fn is_width(size: u8) -> bool
 
 // Entry i of a table. The callers ask below a length that `table_len` gave. A byte of the file decides which width.
 fn entry_at(table: &[u8], size: u8, i: usize) -> u64
-    requires { (is_width size ≡ true) × (i * size + size ≤ length table.now) }
+    requires width { is_width size ≡ true }
+    requires inside { i * size + size ≤ length table.now }
     ensures { result ≡ entry_number size (drop (i * size) table.now) }
 {
     match size {
@@ -129,7 +133,8 @@ fn entry_at(table: &[u8], size: u8, i: usize) -> u64
 // one test moves an index and a number just read, the compiler makes conditional moves of it, and where it moves an
 // index alone, a branch.
 fn halve(table: &[u8], size: u8, n: usize, wanted: u64) -> Option<(usize, u64)>
-    requires { (n * size ≤ length table.now) × (0 < n → is_width size ≡ true) }
+    requires inside { n * size ≤ length table.now }
+    requires width { 0 < n → is_width size ≡ true }
     ensures { result ≡ with_entry (entries size n table.now) (find_in (entries size n table.now) wanted) }
 {
     if n == 0 {

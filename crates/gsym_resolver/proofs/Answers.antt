@@ -18,10 +18,11 @@ use Rattle.gsym_resolver.specs.SharedTables.{SharedTables, reads_text, reads_nam
 use Rattle.gsym_resolver.specs.Known.{Question, question, nothing, read_items}
 use Rattle.gsym_resolver.specs.EntryAnswer.{PositionData, CallData, EntryAnswer, position_of, call_of, calls_of, with_frames, with_row, with_code, entry_answer}
 use Rattle.gsym_resolver.specs.Met.{First, HasPosition, NoPosition, no_file, no_dir, no_file_name, HasCall, NoCall, no_name, no_site}
-use Rattle.gsym_resolver.specs.Met.{Asked, ItemsGive, Unanswered, uncovered, unnamed, unread, unplaced, first_unnamed, uncalled}
+use Rattle.gsym_resolver.specs.Met.{EntryQuestion, Asked, ItemsGive, Unanswered, uncovered, unnamed, unread, unplaced, first_unnamed, uncalled}
 use Rattle.gsym_resolver.specs.Answered.{on_line, Says, unasked, rowless, frameless, framed}
 use Rattle.gsym_reads.proofs.Steps.{by_given, by_test, by_choice, by_outcome}
 use Rattle.gsym_resolver.proofs.Firsts.{first_here, first_later, first_cases, first_none}
+use Rattle.gsym_resolver.proofs.Strings.{text_read, text_unread, name_read, name_unread}
 use Rattle.gsym_resolver.proofs.Items.{items_known, items_refused}
 
 module _ (t : SharedTables) where
@@ -37,22 +38,27 @@ module _ (t : SharedTables) where
     position_outcome =
         by_given PositionOutcome _ (slice_get t.files index.0) _
         (λ e. no_file (past_files e))
-        (λ file e. by_test PositionOutcome (reads_text t file.directory) _ _ (no_dir file e) (λ d.
-        by_test PositionOutcome (reads_text t file.filename) _ _ (no_file_name file e d) (λ n.
-        (record { file = file; there = e; dir = d; name = n }, refl))))
+        (λ file e. by_test PositionOutcome (reads_text t file.directory) _ _
+        (λ d. no_dir file e ((text_unread t file.directory).0 d)) (λ d.
+        let D = (text_read t file.directory).0 d in
+        by_test PositionOutcome (reads_text t file.filename) _ _
+        (λ n. no_file_name file e D ((text_unread t file.filename).0 n)) (λ n.
+        (record { file = file; there = e; dir = D; name = (text_read t file.filename).0 n }, refl))))
       where
         past_files : slice_get t.files index.0 ≡ None → length t.files ≤ index.0
         past_files e = grind (arith, gets, slice_get_cases t.files index.0)
 
     pub placed_position : (P : HasPosition t index) → position_of t index line ≡ Ok (on_line P.file line)
     unfolding position_of
-    placed_position P = rw (P.there, P.dir, P.name)
+    placed_position P =
+        rw (P.there, (text_read t P.file.directory).1 P.dir, (text_read t P.file.filename).1 P.name)
 
     pub unplaced_position : (r : Refusal) → NoPosition t index r → position_of t index line ≡ Err r
     unfolding position_of
     unplaced_position r (no_file l) = rw (slice_get_past t.files index.0 l)
-    unplaced_position r (no_dir file e d) = rw (e, d)
-    unplaced_position r (no_file_name file e d n) = rw (e, d, n)
+    unplaced_position r (no_dir file e d) = rw (e, (text_unread t file.directory).1 d)
+    unplaced_position r (no_file_name file e d n) =
+        rw (e, (text_read t file.directory).1 d, (text_unread t file.filename).1 n)
 
   -- ---- later frames
 
@@ -63,20 +69,23 @@ module _ (t : SharedTables) where
   call_outcome : (f : InlineFrame) → CallOutcome f (call_of t f)
   unfolding call_of
   call_outcome f =
-      by_test (CallOutcome f) (reads_name t f.name) _ _ no_name (λ n.
+      by_test (CallOutcome f) (reads_name t f.name) _ _ (λ n. no_name ((name_unread t f.name).0 n)) (λ n.
       by_outcome (CallOutcome f) (PositionOutcome f.call_file f.call_line) (position_of t f.call_file f.call_line) _
-      (position_outcome f.call_file f.call_line) (λ r u. no_site n u) (λ p e h. (n, h.0)))
+      (position_outcome f.call_file f.call_line) (λ r u. no_site ((name_read t f.name).0 n) u)
+      (λ p e h. ((name_read t f.name).0 n, h.0)))
 
   called_call : (f : InlineFrame) → HasCall t f → (c : CallData) × (call_of t f ≡ Ok c)
   unfolding call_of
   called_call f c =
       let p = placed_position f.call_file f.call_line c.1 in
-      (record { name = f.name; position = on_line c.1.file f.call_line }, rw (c.0, p))
+      (record { name = f.name; position = on_line c.1.file f.call_line }, rw ((name_read t f.name).1 c.0, p))
 
   uncalled_call : (f : InlineFrame) (r : Refusal) → NoCall t f r → call_of t f ≡ Err r
   unfolding call_of
-  uncalled_call f r (no_name n) = rw n
-  uncalled_call f r (no_site n u) = let p = unplaced_position f.call_file f.call_line r u in rw (n, p)
+  uncalled_call f r (no_name n) = rw ((name_unread t f.name).1 n)
+  uncalled_call f r (no_site n u) =
+      let p = unplaced_position f.call_file f.call_line r u in
+      rw ((name_read t f.name).1 n, p)
 
   -- the first of them that doesn't read
   abbrev pub FirstUncalled : List InlineFrame → Refusal → Type 0
@@ -109,22 +118,26 @@ module _ (t : SharedTables) where
 -- ---- an entry
 
 module _ (t : SharedTables) (symbol : Address) (d : EntryData) (addr : Address) (o : Options) (room : ℕ) where
+  abbrev pub asking : EntryQuestion
+  asking = record { tables = t; symbol = symbol; entry = d; addr = addr; options = o; room = room }
+
   abbrev pub IsOutcome : Result EntryAnswer Refusal → Type 0
-  IsOutcome (Ok a) = Says t symbol d addr o room a
-  IsOutcome (Err r) = Unanswered t symbol d addr o room r
+  IsOutcome (Ok a) = Says asking a
+  IsOutcome (Err r) = Unanswered asking r
 
   frames_outcome :
-      (row : LineTableRow) (fs : List InlineFrame) → ItemsGive t symbol d addr o room (Some row) fs →
+      (row : LineTableRow) (fs : List InlineFrame) → ItemsGive asking (Some row) fs →
       (P : HasPosition t row.file_idx) → IsOutcome (with_frames t symbol d (on_line P.file row.file_line) fs)
   unfolding with_frames
   frames_outcome row [] G P = frameless row G P
   frames_outcome row (f ∷ fs) G P =
-      by_test IsOutcome (reads_name t f.name) _ _ (first_unnamed row f fs G P) (λ n.
-      by_outcome IsOutcome (CallsOutcome t fs) (calls_of t fs) _ (calls_outcome t fs) (λ r h. uncalled row f fs G P n h)
-      (λ cs e h. framed row f fs cs G P n e))
+      by_test IsOutcome (reads_name t f.name) _ _ (λ n. first_unnamed row f fs G P ((name_unread t f.name).0 n)) (λ n.
+      let N = (name_read t f.name).0 n in
+      by_outcome IsOutcome (CallsOutcome t fs) (calls_of t fs) _ (calls_outcome t fs) (λ r h. uncalled row f fs G P N h)
+      (λ cs e h. framed row f fs cs G P N e))
 
   row_outcome :
-      (known : Option LineTableRow) (fs : List InlineFrame) → ItemsGive t symbol d addr o room known fs →
+      (known : Option LineTableRow) (fs : List InlineFrame) → ItemsGive asking known fs →
       IsOutcome (with_row t symbol d known fs)
   unfolding with_row
   row_outcome None fs G = rowless fs G
@@ -140,44 +153,47 @@ module _ (t : SharedTables) (symbol : Address) (d : EntryData) (addr : Address) 
   unfolding entry_answer with_code
   entry_outcome =
       by_test IsOutcome (covered_by addr symbol d.size) _ _ uncovered (λ c.
-      by_test IsOutcome (reads_name t d.name) _ _ (unnamed c) (λ n.
+      by_test IsOutcome (reads_name t d.name) _ _ (λ n. unnamed c ((name_unread t d.name).0 n)) (λ n.
+      let N = (name_read t d.name).0 n in
       by_choice IsOutcome o.code_info _ _
-      (λ k. let A : Asked t symbol d addr o = record { covered = c; named = n; code = k } in
+      (λ k. let A : Asked asking = record { covered = c; named = N; code = k } in
       through IsOutcome (read_items q d.items nothing) _ (λ r e. unread A ((items_refused q d.items r).0 e))
       (λ k e. let h = (items_known q d.items k.row k.frames).0 e in
       row_outcome k.row k.frames (record { asked = A; row_is = h.0; frames_are = h.1 })))
-      (unasked c n)))
+      (unasked c N)))
 
   -- ---- and the other way round
 
-  given_code : (known : Option LineTableRow) (fs : List InlineFrame) → ItemsGive t symbol d addr o room known fs →
+  given_code : (known : Option LineTableRow) (fs : List InlineFrame) → ItemsGive asking known fs →
       entry_answer t symbol d addr o room ≡ with_row t symbol d known fs
   unfolding entry_answer with_code
   given_code known fs G =
       let e = (items_known (question symbol addr room o.inlining) d.items known fs).1 (G.row_is, G.frames_are) in
-      rw (G.asked.covered, G.asked.named, G.asked.code, e)
+      rw (G.asked.covered, (name_read t d.name).1 G.asked.named, G.asked.code, e)
 
-  pub unanswered_answer : (r : Refusal) → Unanswered t symbol d addr o room r → entry_answer t symbol d addr o room ≡ Err r
+  pub unanswered_answer : (r : Refusal) → Unanswered asking r → entry_answer t symbol d addr o room ≡ Err r
   unfolding entry_answer with_code with_row with_frames
   unanswered_answer r (uncovered c) = rw c
-  unanswered_answer r (unnamed c n) = rw (c, n)
+  unanswered_answer r (unnamed c n) = rw (c, (name_unread t d.name).1 n)
   unanswered_answer r (unread A F) =
       let e = (items_refused (question symbol addr room o.inlining) d.items r).1 F in
-      rw (A.covered, A.named, A.code, e)
+      rw (A.covered, (name_read t d.name).1 A.named, A.code, e)
   unanswered_answer r (unplaced row fs G u) =
       let e = unplaced_position t row.file_idx row.file_line r u in given_code (Some row) fs G ∙ rw e
   unanswered_answer r (first_unnamed row f fs G P n) =
-      let e = placed_position t row.file_idx row.file_line P in given_code (Some row) (f ∷ fs) G ∙ rw (e, n)
+      let e = placed_position t row.file_idx row.file_line P in
+      given_code (Some row) (f ∷ fs) G ∙ rw (e, (name_unread t f.name).1 n)
   unanswered_answer r (uncalled row f fs G P n F) =
       let e = placed_position t row.file_idx row.file_line P in
       let u = uncalled_calls t fs r F in
-      given_code (Some row) (f ∷ fs) G ∙ rw (e, n, u)
+      given_code (Some row) (f ∷ fs) G ∙ rw (e, (name_read t f.name).1 n, u)
 
-  pub says_answer : (a : EntryAnswer) → Says t symbol d addr o room a → entry_answer t symbol d addr o room ≡ Ok a
+  pub says_answer : (a : EntryAnswer) → Says asking a → entry_answer t symbol d addr o room ≡ Ok a
   unfolding entry_answer with_code with_row with_frames
-  says_answer a (unasked c n k) = rw (c, n, k)
+  says_answer a (unasked c n k) = rw (c, (name_read t d.name).1 n, k)
   says_answer a (rowless fs G) = given_code None fs G
   says_answer a (frameless row G P) =
       let e = placed_position t row.file_idx row.file_line P in given_code (Some row) [] G ∙ rw e
   says_answer a (framed row f fs calls G P n k) =
-      let e = placed_position t row.file_idx row.file_line P in given_code (Some row) (f ∷ fs) G ∙ rw (e, n, k)
+      let e = placed_position t row.file_idx row.file_line P in
+      given_code (Some row) (f ∷ fs) G ∙ rw (e, (name_read t f.name).1 n, k)

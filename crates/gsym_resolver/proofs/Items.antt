@@ -1,12 +1,13 @@
 -- What reading the items of a list comes to, in RULES' words: the row and the frames that they give, or the first item
 -- that refuses.
 -- Assumes nothing.
-use Rattle.std.proofs.Common.{◌≡◌, ◌↔◌, Some, None, Ok, Err, Option, Result, ℕ, Bool, true, false, List, [], ◌∷◌, ◌++◌, ⊎_elim, arith, refl, sym, ap, subst, ◌∙◌, eqb, eqb-true, eq-eqb}
+use Rattle.std.proofs.Common.{◌≡◌, ◌↔◌, Some, None, Ok, Err, Option, Result, IfErr, ℕ, Bool, true, false, List, [], ◌∷◌, ◌++◌, ⊎_elim, arith, refl, sym, ap, subst, ◌∙◌, eqb, eqb-true, eq-eqb}
 use Rattle.std.proofs.lemmas.Bool.{eqb-false}
 use Rattle.std.proofs.lemmas.List.{append-nil}
 use Rattle.std.proofs.lemmas.List.Elements.{All-nil, All-cons, All-head, All-tail}
 use Rattle.gsym_reads.specs.Steps.{◌>>=◌, told}
 use Rattle.gsym_reads.proofs.Steps.{through}
+use Rattle.gsym_leb128.specs.Answers.{signed_at, unsigned_at}
 use Rattle.gsym_leb128.specs.declared.Cause.{Cause}
 use Rattle.gsym_types.specs.declared.InlineFrame.{InlineFrame}
 use Rattle.gsym_types.specs.declared.Refusal.{Refusal}
@@ -14,6 +15,8 @@ use Rattle.gsym_types.specs.declared.Refusal.TheVariants as refused
 use Rattle.gsym_linetab.specs.declared.LineTableRow.{LineTableRow}
 use Rattle.gsym_linetab.specs.declared.LineTableHeader.{LineTableHeader}
 use Rattle.gsym_linetab.specs.Machine.{header_of, start_row}
+use Rattle.gsym_linetab.specs.Unread.{IsUnread}
+use Rattle.gsym_linetab.proofs.Unread.{header_refused}
 use Rattle.gsym_linetab.specs.Rows.{run_of, row_in, table_of, line_row}
 use Rattle.gsym_types.specs.declared.Address.{Address}
 use Rattle.gsym_inline.specs.Block.{Block, block_of}
@@ -22,18 +25,22 @@ use Rattle.gsym_inline.specs.Steps.{steps_of}
 use Rattle.gsym_inline.specs.ListsFrames.{ListsFrames}
 use Rattle.gsym_parser.specs.Items.{ItemData}
 use Rattle.gsym_resolver.specs.Known.{Question, question, Known, knowing, nothing, row_after, frames_after, read_items}
-use Rattle.gsym_resolver.specs.Met.{First, GivesNoRow, GivesRow, GivesNoFrames, GivesFrames}
+use Rattle.gsym_resolver.specs.Met.{First, TableGives, GivesNoRow, GivesRow, GivesNoFrames, GivesFrames}
 use Rattle.gsym_resolver.specs.Met.{RowIs, no_row, row, FramesAre, no_inlining, no_frames, frames}
 use Rattle.gsym_resolver.specs.Met.{ItemRefuses, header, block, FirstRefusing}
 use Rattle.gsym_reads.proofs.Steps.{by_choice}
 use Rattle.gsym_resolver.proofs.Firsts.{first_here, first_later, first_cases, first_none}
 use Rattle.gsym_resolver.proofs.Blocks.{block_listed, block_refused}
+use Rattle.gsym_resolver.proofs.TableRows.{table_row}
 
 -- a line table doesn't read exactly if its header doesn't
 header_unread :
-    (bytes : List ℕ) (symbol addr : Address) (c : Cause) → (header_of bytes 0 ≡ Err c) ↔ (line_row bytes symbol addr ≡ Err c)
+    (bytes : List ℕ) (symbol addr : Address) (c : Cause) → IsUnread bytes 0 c ↔ (line_row bytes symbol addr ≡ Err c)
 unfolding line_row table_of
-header_unread bytes symbol addr c = (λ e. rw e, λ e. go (header_of bytes 0) e)
+header_unread bytes symbol addr c = (
+  λ h. let e = (header_refused bytes 0 (header_of bytes 0) refl c).1 h in rw e,
+  λ e. (header_refused bytes 0 (header_of bytes 0) refl c).0 (go (header_of bytes 0) e),
+)
   where
     go : (x : Result (LineTableHeader × ℕ) Cause) →
         ((x >>= λ p. Ok (run_of p.0 bytes (record { row = start_row p.0 symbol; at = p.1 }))) >>= λ ran. Ok (row_in ran addr)) ≡ Err c →
@@ -63,12 +70,16 @@ module _ (q : Question) where
     row_later s n (no_row a) = no_row (All-cons (GivesNoRow q) item items n a)
     row_later s n (row F) = row (first_later _ _ item items n F)
 
+    abbrev table : (s : Option LineTableRow) →
+        (line_row item.bytes q.symbol q.addr ≡ Ok s) ↔ TableGives q.symbol q.addr item.bytes s
+    table s = table_row q.symbol q.addr item.bytes s
+
     -- what an item gives while no row is known
     abbrev RowGiven : Result (Option LineTableRow) Refusal → Type 0
     RowGiven (Ok None) = GivesNoRow q item
     RowGiven (Ok (Some r)) = GivesRow q r item
     RowGiven (Err x) =
-        (x ≡ refused.UnreadLineHeader) × (item.kind ≡ 1) × ((c : Cause) × (header_of item.bytes 0 ≡ Err c))
+        (x ≡ refused.UnreadLineHeader) × (item.kind ≡ 1) × ((c : Cause) × IsUnread item.bytes 0 c)
 
     row_given : RowGiven (row_after q item None)
     row_given =
@@ -77,8 +88,8 @@ module _ (q : Question) where
       where
         line : item.kind ≡ 1 → (l : Result (Option LineTableRow) Cause) → line_row item.bytes q.symbol q.addr ≡ l →
             RowGiven (told (λ _. refused.UnreadLineHeader) l)
-        line k (Ok None) m = λ z. m
-        line k (Ok (Some r)) m = (k, m)
+        line k (Ok None) m = λ z. (table None).0 m
+        line k (Ok (Some r)) m = (k, (table (Some r)).0 m)
         line k (Err c) m = (refl, k, (c, (header_unread item.bytes q.symbol q.addr c).1 m))
 
     row_back : (r s known : Option LineTableRow) → row_after q item r ≡ Ok known → RowFrom known items s → RowFrom r (item ∷ items) s
@@ -96,7 +107,7 @@ module _ (q : Question) where
 
     row_pass : GivesNoRow q item → row_after q item None ≡ Ok None
     row_pass n =
-        by_choice (λ x. x ≡ Ok None) (eqb item.kind 1) _ _ (λ k. rw (n (eqb-true item.kind 1 k))) (λ k. refl)
+        by_choice (λ x. x ≡ Ok None) (eqb item.kind 1) _ _ (λ k. rw ((table None).1 (n (eqb-true item.kind 1 k)))) (λ k. refl)
 
     abbrev RowNext : Option LineTableRow → Option LineTableRow → Type 0
     RowNext r s = (known : Option LineTableRow) × (row_after q item r ≡ Ok known) × RowFrom known items s
@@ -107,7 +118,7 @@ module _ (q : Question) where
         (None, row_pass (All-head (GivesNoRow q) item items a), no_row (All-tail (GivesNoRow q) item items a))
     row_next None s (row {r = r} F) =
         ⊎_elim
-        (λ (h : GivesRow q r item). (Some r, rw (eq-eqb item.kind 1 h.0, h.1), refl))
+        (λ (h : GivesRow q r item). (Some r, rw (eq-eqb item.kind 1 h.0, (table (Some r)).1 h.1), refl))
         (λ (h : GivesNoRow q item × First (GivesNoRow q) (GivesRow q r) items). (None, row_pass h.0, row h.1))
         (first_cases _ _ item items F)
 

@@ -38,8 +38,8 @@ module _ (v : View) (w : Within v.file v.tables) where
   abbrev pub start : ℕ
   start = v.tables.strings.place
 
-  abbrev pub spelled : PositionData → Position
-  spelled p = position_with_places t start p
+  abbrev pub position_placed : PositionData → Position
+  position_placed p = position_with_places t start p
 
   abbrev pub called : CallData → Frame
   called c = call_with_places t start c
@@ -56,7 +56,7 @@ module _ (v : View) (w : Within v.file v.tables) where
   name_step e offset f = rw (name_in_tables v w offset) (given_if e (reads_name t offset) _ f)
 
   pub position_joined :
-      (index : FileIndex) (line : LineNumber) → position_at v index line ≡ (position_of t index line >>= λ p. Ok (spelled p))
+      (index : FileIndex) (line : LineNumber) → position_at v index line ≡ (position_of t index line >>= λ p. Ok (position_placed p))
   unfolding position_at position_of
   position_joined index line = simp (file_in_tables v w, text_step, bind_bind, need_bind)
 
@@ -71,13 +71,13 @@ module _ (v : View) (w : Within v.file v.tables) where
 
   pub first_joined :
       (row : PositionData) (cs : List CallData) →
-      places.first_position (spelled row) (map called cs) ≡ spelled (values.first_position row cs)
+      places.first_position (position_placed row) (map called cs) ≡ position_placed (values.first_position row cs)
   first_joined row [] = refl
   first_joined row (c ∷ cs) = refl
 
   pub moved_joined :
       (row : PositionData) (cs : List CallData) →
-      places.moved_up (spelled row) (map called cs) ≡ map called (values.moved_up row cs)
+      places.moved_up (position_placed row) (map called cs) ≡ map called (values.moved_up row cs)
   unfolding places.moved_up values.moved_up
   moved_joined row [] = refl
   moved_joined row (c ∷ cs) = rw (first_joined row cs, moved_joined row cs)
@@ -96,7 +96,7 @@ module _ (v : View) (w : Within v.file v.tables) where
 
     frames_joined :
         (row : PositionData) (fs : List InlineFrame) →
-        places.with_frames v landing (spelled row) fs ≡ put (values.with_frames t symbol (entry_data info) row fs)
+        places.with_frames v landing (position_placed row) fs ≡ put (values.with_frames t symbol (entry_data info) row fs)
     unfolding places.with_frames values.with_frames with_places values.moved_up
     frames_joined row [] = refl
     frames_joined row (f ∷ fs) =

@@ -1,8 +1,10 @@
 pub mod Firsts
 pub mod Blocks
+pub mod TableRows
 pub mod Items
 pub mod Shared
 pub mod Joined
+pub mod Strings
 pub mod Answers
 pub mod Lookups
 pub mod Unasked

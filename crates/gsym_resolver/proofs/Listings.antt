@@ -6,7 +6,6 @@ use Rattle.gsym_types.specs.declared.Frame.{Frame}
 use Rattle.gsym_types.specs.declared.InlineFrame.{InlineFrame}
 use Rattle.gsym_types.specs.declared.Options.{Options}
 use Rattle.gsym_types.specs.declared.Position.{Position}
-use Rattle.gsym_parser.specs.Entries.{symbol_at}
 use Rattle.gsym_parser.specs.Items.{ItemData}
 use Rattle.gsym_parser.proofs.Opened.{tables_within}
 use Rattle.gsym_resolver.specs.EntryData.{Entered}
@@ -16,11 +15,12 @@ use Rattle.gsym_resolver.specs.EntryAnswer.{EntryAnswer}
 use Rattle.gsym_resolver.specs.EntryAnswer as values
 use Rattle.gsym_resolver.specs.Lookup.{LookedUp, lookup_of, first_position, moved_up}
 use Rattle.gsym_resolver.specs.WithPlaces.{with_places}
-use Rattle.gsym_resolver.specs.Met.{First, GivesNoFrames, GivesFrames, FramesAre, no_inlining, no_frames, frames}
+use Rattle.gsym_resolver.specs.Met.{entry_question, First, GivesNoFrames, GivesFrames, FramesAre, no_inlining, no_frames, frames}
 use Rattle.gsym_resolver.specs.Answered.{on_line, Says, unasked, rowless, frameless, framed}
 use Rattle.gsym_resolver.specs.Blocks.{asked_of, frame_name, frame_position, Listed}
 use Rattle.gsym_resolver.proofs.Shared.{name_in_tables}
-use Rattle.gsym_resolver.proofs.Joined.{spelled, called, position_joined, calls_joined, first_joined, moved_joined}
+use Rattle.gsym_resolver.proofs.Strings.{name_read}
+use Rattle.gsym_resolver.proofs.Joined.{position_placed, called, position_joined, calls_joined, first_joined, moved_joined}
 use Rattle.gsym_resolver.proofs.Answers.{placed_position}
 use Rattle.gsym_resolver.proofs.Lookups.{lookup_answered}
 
@@ -56,7 +56,7 @@ module _ (file : List ℕ) (addr : Address) (o : Options) (room : ℕ) (l : Look
       let z : length l.frames ≡ 0 = ap length f in
       absurd (omega arith)
 
-  says_listed : (a : EntryAnswer) → Says (shared_tables E.view) (symbol_at E.view E.index) E.entry addr o room a → IsPlaced a →
+  says_listed : (a : EntryAnswer) → Says (entry_question E o room) a → IsPlaced a →
       0 < length l.frames → Listed file addr o room l
   unfolding with_places
   says_listed a (unasked c n k) p h = none_given a refl p h
@@ -66,7 +66,7 @@ module _ (file : List ℕ) (addr : Address) (o : Options) (room : ℕ) (l : Look
       let v = E.view in
       let w = tables_within file v E.opens in
       let at = on_line P.file row.file_line in
-      let records : l.frames ≡ moved_up (spelled v w at) (map (called v w) calls) =
+      let records : l.frames ≡ moved_up (position_placed v w at) (map (called v w) calls) =
       ap (λ (x : LookedUp). x.frames) p ∙ sym (moved_joined v w at calls) in
       let e = placed_position (shared_tables v) row.file_idx row.file_line P in
       record {
@@ -76,18 +76,18 @@ module _ (file : List ℕ) (addr : Address) (o : Options) (room : ℕ) (l : Look
         block = given_frames (asked_of E o room) E.entry.items (f ∷ fs) f fs G.frames_are refl;
         row = row;
         row_is = G.row_is;
-        row_position = spelled v w at;
+        row_position = position_placed v w at;
         row_read = position_joined v w row.file_idx row.file_line ∙ rw e;
         calls = map (called v w) calls;
         called = calls_joined v w fs ∙ rw k;
-        name = name_in_tables v w f.name ∙ rw n (ap Some (sym (ap (λ (x : LookedUp). x.answer.name) p)));
-        names = ap (map frame_name) records ∙ moved_names (spelled v w at) (map (called v w) calls);
-        position = spelled v w (values.first_position at calls);
+        name = name_in_tables v w f.name ∙ rw ((name_read (shared_tables v) f.name).1 n) (ap Some (sym (ap (λ (x : LookedUp). x.answer.name) p)));
+        names = ap (map frame_name) records ∙ moved_names (position_placed v w at) (map (called v w) calls);
+        position = position_placed v w (values.first_position at calls);
         placed = ap (λ (x : LookedUp). x.answer.position) p;
         positions =
-            ap (λ fs. spelled v w (values.first_position at calls) ∷ map frame_position fs) records
-            ∙ ap (λ x. x ∷ map frame_position (moved_up (spelled v w at) (map (called v w) calls))) (sym (first_joined v w at calls))
-            ∙ moved_positions (spelled v w at) (map (called v w) calls);
+            ap (λ fs. position_placed v w (values.first_position at calls) ∷ map frame_position fs) records
+            ∙ ap (λ x. x ∷ map frame_position (moved_up (position_placed v w at) (map (called v w) calls))) (sym (first_joined v w at calls))
+            ∙ moved_positions (position_placed v w at) (map (called v w) calls);
       }
 
 pub lookup_listed :

@@ -17,13 +17,13 @@ use Rattle.gsym_parser.specs.Search.{find_of, Nowhere}
 use Rattle.gsym_parser.specs.Entries.{symbol_at, covered_by}
 use Rattle.gsym_parser.specs.Items.{ItemData}
 use Rattle.gsym_resolver.specs.EntryData.{data_at, Entered}
-use Rattle.gsym_resolver.specs.SharedTables.{SharedTables, shared_tables, reads_name}
+use Rattle.gsym_resolver.specs.SharedTables.{SharedTables, shared_tables, HasName}
 use Rattle.gsym_resolver.specs.Known.{Question}
 use Rattle.gsym_resolver.specs.Lookup.{lookup_of}
 use Rattle.gsym_resolver.specs.Met.{First, GivesNoFrames, FramesAre, no_inlining, no_frames, frames, ItemRefuses, header, block, FirstRefusing}
 use Rattle.gsym_resolver.specs.Met.{NoPosition, no_file, no_dir, no_file_name, NoCall, no_name, no_site}
 use Rattle.gsym_resolver.specs.Met.{Unanswered, uncovered, unnamed, unread, unplaced, first_unnamed, uncalled}
-use Rattle.gsym_resolver.specs.Met.{Met, not_opened, not_found, no_info, by_entry}
+use Rattle.gsym_resolver.specs.Met.{entry_question, Met, not_opened, not_found, no_info, by_entry}
 use Rattle.gsym_resolver.specs.Blocks.{asked_of, BlockRefuses, RefusedByBlock}
 use Rattle.gsym_resolver.proofs.Blocks.{fault_number}
 use Rattle.gsym_resolver.proofs.Lookups.{lookup_met}
@@ -92,14 +92,14 @@ data Numbered (file : List ℕ) (addr : Address) (o : Options) (room : ℕ) (r :
   is_unread : (v : View) (i : ℕ) → opened_of file ≡ Ok v → find_of v addr ≡ Some i → data_at v i ≡ None → number_of r ≡ 5 →
       Numbered file addr o room r
   is_unnamed : (E : Entered file addr) → covered_by addr (symbol_at E.view E.index) E.entry.size ≡ true →
-      reads_name (shared_tables E.view) E.entry.name ≡ false → number_of r ≡ 6 → Numbered file addr o room r
+      (HasName (shared_tables E.view) E.entry.name → ⊥) → number_of r ≡ 6 → Numbered file addr o room r
   is_asked : o.code_info ≡ true → 6 ≤ number_of r → number_of r ≤ 9 → Numbered file addr o room r
   is_block : RefusedByBlock file addr o room r → 10 ≤ number_of r → Numbered file addr o room r
 
 module _ (file : List ℕ) (addr : Address) (o : Options) (room : ℕ) where
   entry_numbered :
       (E : Entered file addr) (r : Refusal) →
-      Unanswered (shared_tables E.view) (symbol_at E.view E.index) E.entry addr o room r → Numbered file addr o room r
+      Unanswered (entry_question E o room) r → Numbered file addr o room r
   entry_numbered E r (uncovered c) = is_uncovered E c refl
   entry_numbered E r (unnamed c n) = is_unnamed E c n refl
   entry_numbered E r (unread A F) =
@@ -218,7 +218,7 @@ module _ (file : List ℕ) (addr : Address) (o : Options) (room : ℕ) where
   abbrev Unnamed : Type 0
   Unnamed =
       (E : Entered file addr) × (covered_by addr (symbol_at E.view E.index) E.entry.size ≡ true)
-      × (reads_name (shared_tables E.view) E.entry.name ≡ false)
+      × (HasName (shared_tables E.view) E.entry.name → ⊥)
 
   pub refused_name : o.code_info ≡ false → lookup_of file addr o room ≡ Err UnreadName → Unnamed
   refused_name k e = go (numbered UnreadName e)

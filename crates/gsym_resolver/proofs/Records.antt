@@ -14,7 +14,7 @@ use Rattle.gsym_resolver.specs.Known.{Question, question}
 use Rattle.gsym_resolver.specs.EntryAnswer.{PositionData, CallData, EntryAnswer, moved_up}
 use Rattle.gsym_resolver.specs.Lookup.{LookedUp, lookup_of}
 use Rattle.gsym_resolver.specs.WithPlaces.{with_places}
-use Rattle.gsym_resolver.specs.Met.{FramesAre, no_inlining, no_frames, frames}
+use Rattle.gsym_resolver.specs.Met.{EntryQuestion, FramesAre, no_inlining, no_frames, frames}
 use Rattle.gsym_resolver.specs.Answered.{on_line, Says, unasked, rowless, frameless, framed, Answered}
 use Rattle.gsym_resolver.proofs.Blocks.{listed_room}
 use Rattle.gsym_resolver.proofs.Answers.{CallsOutcome, calls_outcome}
@@ -41,13 +41,16 @@ frames_room q items fs (no_frames a) = omega arith
 frames_room q items fs (frames i F) = listed_room q.symbol.0 q.addr.0 q.room F.this.bytes _ F.holds.1
 
 module _ (t : SharedTables) (symbol : Address) (d : EntryData) (addr : Address) (o : Options) (room : ℕ) where
-  says_covered : (a : EntryAnswer) → Says t symbol d addr o room a → covered_by addr a.addr a.size ≡ true
+  abbrev asking : EntryQuestion
+  asking = record { tables = t; symbol = symbol; entry = d; addr = addr; options = o; room = room }
+
+  says_covered : (a : EntryAnswer) → Says asking a → covered_by addr a.addr a.size ≡ true
   says_covered a (unasked c n k) = c
   says_covered a (rowless fs G) = G.asked.covered
   says_covered a (frameless row G P) = G.asked.covered
   says_covered a (framed row f fs calls G P n k) = G.asked.covered
 
-  says_room : (a : EntryAnswer) → Says t symbol d addr o room a → (length a.calls ≡ 0) ⊎ (length a.calls + 1 ≤ room)
+  says_room : (a : EntryAnswer) → Says asking a → (length a.calls ≡ 0) ⊎ (length a.calls + 1 ≤ room)
   says_room a (unasked c n k) = inl refl
   says_room a (rowless fs G) = inl refl
   says_room a (frameless row G P) = inl refl
@@ -58,7 +61,7 @@ module _ (t : SharedTables) (symbol : Address) (d : EntryData) (addr : Address) 
       inr (omega arith)
 
   says_no_calls :
-      (a : EntryAnswer) → (o.code_info ≡ false) ⊎ (o.inlining ≡ false) → Says t symbol d addr o room a → a.calls ≡ []
+      (a : EntryAnswer) → (o.code_info ≡ false) ⊎ (o.inlining ≡ false) → Says asking a → a.calls ≡ []
   says_no_calls a h (unasked c n k) = refl
   says_no_calls a h (rowless fs G) = refl
   says_no_calls a h (frameless row G P) = refl

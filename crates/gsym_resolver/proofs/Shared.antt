@@ -64,8 +64,8 @@ module _ (v : View) (w : Within v.file v.tables) where
       ⊎_elim
       (λ (l : index.0 < v.tables.file_count).
       let row = drop (v.tables.files + index.0 * 8) v.file in
-      let first = u32_there row (rw length-drop (omega (arith, w.files-end))) in
-      let second = u32_there (drop 4 row) (rw (length-drop, length-drop) (omega (arith, w.files-end))) in
+      let first = u32_there row (rw length-drop (omega (arith, w.files_end))) in
+      let second = u32_there (drop 4 row) (rw (length-drop, length-drop) (omega (arith, w.files_end))) in
       rw (lt-ltb _ _ l, first, second, nth_there v.tables.file_count index.0 (drop v.tables.files v.file) l, drop-drop (index.0 * 8) v.tables.files v.file))
       (λ (l : v.tables.file_count ≤ index.0).
       rw (le-ltb _ _ l) (sym (nth_none v.tables.file_count index.0 (drop v.tables.files v.file) l)))
@@ -76,7 +76,7 @@ module _ (v : View) (w : Within v.file v.tables) where
       ≡ (if reads_text (shared_tables v) offset then Some (text_with_place (shared_tables v) v.tables.strings.place offset) else None)
   unfolding shared_tables
   text_in_tables offset =
-      text_in-table v.file v.tables.strings offset w.strings-end
+      text_in-table v.file v.tables.strings offset w.strings_end
       ∙ placed_text (shared_tables v) v.tables.strings.place offset
 
   pub name_in_tables :
@@ -84,5 +84,5 @@ module _ (v : View) (w : Within v.file v.tables) where
       ≡ (if reads_name (shared_tables v) offset then Some (text_with_place (shared_tables v) v.tables.strings.place offset) else None)
   unfolding shared_tables
   name_in_tables offset =
-      name-in-table v.file v.tables.strings offset w.strings-end
+      name-in-table v.file v.tables.strings offset w.strings_end
       ∙ placed_name (shared_tables v) v.tables.strings.place offset

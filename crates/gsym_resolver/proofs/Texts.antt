@@ -60,9 +60,9 @@ module _ (v : View) (w : Within v.file v.tables) where
       go (Some n) e =
           let s : length t.strings ≡ v.tables.strings.size =
           length-take-le v.tables.strings.size (drop start v.file)
-          (omega (arith, w.strings-end, length-drop start v.file)) in
+          (omega (arith, w.strings_end, length-drop start v.file)) in
           let i : offset.0 + n < length t.strings = text_in-inside t.strings offset.0 n e in
-          let h : start + offset.0 + n ≤ length v.file = omega (arith, w.strings-end) in
+          let h : start + offset.0 + n ≤ length v.file = omega (arith, w.strings_end) in
           rw (le-leb _ _ h) (sym (part_of_part v.file start v.tables.strings.size offset.0 n (omega arith)))
       go None e = let h : 0 + 0 ≤ length v.file = omega arith in rw (le-leb _ _ h)
 

@@ -6,39 +6,40 @@ use Rattle.gsym_types.specs.declared.InlineFrame.{InlineFrame}
 use Rattle.gsym_types.specs.declared.LineNumber.{LineNumber}
 use Rattle.gsym_types.specs.declared.Options.{Options}
 use Rattle.gsym_linetab.specs.declared.LineTableRow.{LineTableRow}
-use Rattle.gsym_parser.specs.Entries.{symbol_at, covered_by}
+use Rattle.gsym_parser.specs.Entries.{covered_by}
 use Rattle.gsym_parser.specs.declared.entries.FileInfo.{FileInfo}
-use Rattle.gsym_resolver.specs.EntryData.{EntryData, Entered}
-use Rattle.gsym_resolver.specs.SharedTables.{SharedTables, shared_tables, reads_name}
+use Rattle.gsym_resolver.specs.EntryData.{Entered}
+use Rattle.gsym_resolver.specs.SharedTables.{shared_tables, HasName}
 use Rattle.gsym_resolver.specs.EntryAnswer.{PositionData, CallData, EntryAnswer, calls_of, first_position, moved_up, alone, placed}
 use Rattle.gsym_resolver.specs.Lookup.{LookedUp}
 use Rattle.gsym_resolver.specs.WithPlaces.{with_places}
-use Rattle.gsym_resolver.specs.Met.{HasPosition, ItemsGive}
+use Rattle.gsym_resolver.specs.Met.{HasPosition, EntryQuestion, ItemsGive, entry_question}
 
 -- a file's directory and name, and a line
 abbrev pub on_line : FileInfo → LineNumber → PositionData
 on_line file line = record { row = file; line = line }
 
 -- what an entry says at an address, where nothing is refused
-pub data Says (t : SharedTables) (symbol : Address) (d : EntryData) (addr : Address) (o : Options) (room : ℕ) : EntryAnswer → Type 0 where
+pub data Says (q : EntryQuestion) : EntryAnswer → Type 0 where
   -- no code info is asked for: the symbol alone
-  unasked : covered_by addr symbol d.size ≡ true → reads_name t d.name ≡ true → o.code_info ≡ false →
-      Says t symbol d addr o room (alone symbol d)
+  unasked : covered_by q.addr q.symbol q.entry.size ≡ true → HasName q.tables q.entry.name →
+      q.options.code_info ≡ false → Says q (alone q.symbol q.entry)
   -- there is no row: no position, no records, and the name is the symbol's own
-  rowless : (fs : List InlineFrame) → ItemsGive t symbol d addr o room None fs → Says t symbol d addr o room (alone symbol d)
+  rowless : (fs : List InlineFrame) → ItemsGive q None fs → Says q (alone q.symbol q.entry)
   -- there are no frames: the symbol at the row's position
-  frameless : (row : LineTableRow) → ItemsGive t symbol d addr o room (Some row) [] → (P : HasPosition t row.file_idx) →
-      Says t symbol d addr o room (placed symbol d d.name (on_line P.file row.file_line) [])
+  frameless : (row : LineTableRow) → ItemsGive q (Some row) [] → (P : HasPosition q.tables row.file_idx) →
+      Says q (placed q.symbol q.entry q.entry.name (on_line P.file row.file_line) [])
   -- the first frame gives its name, each later one is a record; positions move up one
   framed : (row : LineTableRow) (f : InlineFrame) (fs : List InlineFrame) (calls : List CallData) →
-      ItemsGive t symbol d addr o room (Some row) (f ∷ fs) → (P : HasPosition t row.file_idx) → reads_name t f.name ≡ true →
-      calls_of t fs ≡ Ok calls →
-      Says t symbol d addr o room
-      (placed symbol d f.name (first_position (on_line P.file row.file_line) calls) (moved_up (on_line P.file row.file_line) calls))
+      ItemsGive q (Some row) (f ∷ fs) → (P : HasPosition q.tables row.file_idx) → HasName q.tables f.name →
+      calls_of q.tables fs ≡ Ok calls →
+      Says q
+      (placed q.symbol q.entry f.name (first_position (on_line P.file row.file_line) calls)
+      (moved_up (on_line P.file row.file_line) calls))
 
 -- a lookup's answer and records: the address lands on an entry, and they are what its data say, with places
 pub record Answered (file : List ℕ) (addr : Address) (o : Options) (room : ℕ) (l : LookedUp) : Type 0 where
   pub entered : Entered file addr
   pub values : EntryAnswer
-  pub said : Says (shared_tables entered.view) (symbol_at entered.view entered.index) entered.entry addr o room values
+  pub said : Says (entry_question entered o room) values
   pub places : l ≡ with_places (shared_tables entered.view) entered.view.tables.strings.place values

@@ -16,10 +16,9 @@ use Rattle.gsym_parser.specs.Entries.{symbol_at}
 use Rattle.gsym_parser.specs.Texts.{name_at}
 use Rattle.gsym_parser.specs.Items.{ItemData}
 use Rattle.gsym_resolver.specs.EntryData.{Entered}
-use Rattle.gsym_resolver.specs.SharedTables.{shared_tables}
 use Rattle.gsym_resolver.specs.Known.{Question, question}
 use Rattle.gsym_resolver.specs.Lookup.{LookedUp, position_at, calls_at}
-use Rattle.gsym_resolver.specs.Met.{First, GivesNoFrames, GivesFrames, RowIs, Asked}
+use Rattle.gsym_resolver.specs.Met.{First, GivesNoFrames, GivesFrames, RowIs, Asked, entry_question}
 
 -- what a lookup asks of the items of the entry that it lands on
 abbrev pub asked_of : {file : List ℕ} {addr : Address} → Entered file addr → Options → (room : ℕ) → Question
@@ -33,7 +32,7 @@ BlockRefuses q r item = (item.kind ≡ 2) × FirstFault q.room (steps_of q.symbo
 -- doesn't list none is refused so
 pub record RefusedByBlock (file : List ℕ) (addr : Address) (o : Options) (room : ℕ) (r : Refusal) : Type 0 where
   pub entered : Entered file addr
-  pub asked : Asked (shared_tables entered.view) (symbol_at entered.view entered.index) entered.entry addr o
+  pub asked : Asked (entry_question entered o room)
   pub inlining : o.inlining ≡ true
   pub block : First (GivesNoFrames (asked_of entered o room)) (BlockRefuses (asked_of entered o room) r) entered.entry.items
 

@@ -11,7 +11,7 @@ use Rattle.gsym_linetab.specs.Examples.{between}
 use Rattle.gsym_linetab.specs.Examples as line
 use Rattle.gsym_inline.specs.Frames.{frame}
 use Rattle.gsym_inline.specs.Block.{block_of}
-use Rattle.gsym_inline.specs.Examples.{parent}
+use Rattle.gsym_inline.specs.Examples.{root_over_leaf}
 use Rattle.gsym_inline.specs.Examples as block
 
 pub record MarkedExamples : Type 0 where
@@ -26,9 +26,9 @@ pub record MarkedExamples : Type 0 where
   pub t7 : step_of (between (pos 0) (neg_ℤ (pos 1))) (4 ∷ []) (state 4096 1 100 0) ≡ Err Stopped
   pub t8 : step_of (between (pos 0) (neg_ℤ (pos 3))) (7 ∷ []) (state 4096 1 100 0) ≡ Ok (NewRow (state 4095 1 101 1))
   -- blocks at symbol 0x1000: a root and its child contain 0x1005, only the root 0x100c; a root without a name; `00`
-  pub t9 : block_of 0x1000 0x1005 64 (parent 1) ≡ Ok (frame 1 0 0 ∷ frame 5 1 10 ∷ [])
-  pub t10 : block_of 0x1000 0x100c 64 (parent 1) ≡ Ok (frame 1 0 0 ∷ [])
-  pub t11 : block_of 0x1000 0x1005 64 (parent 0) ≡ Ok (frame 5 1 10 ∷ [])
+  pub t9 : block_of 0x1000 0x1005 64 (root_over_leaf 1) ≡ Ok (frame 1 0 0 ∷ frame 5 1 10 ∷ [])
+  pub t10 : block_of 0x1000 0x100c 64 (root_over_leaf 1) ≡ Ok (frame 1 0 0 ∷ [])
+  pub t11 : block_of 0x1000 0x1005 64 (root_over_leaf 0) ≡ Ok (frame 5 1 10 ∷ [])
   pub t12 : block_of 0x1000 0x1005 64 (0x00 ∷ []) ≡ Ok []
 
 pub marked_examples : MarkedExamples

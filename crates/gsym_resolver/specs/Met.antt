@@ -1,7 +1,7 @@
 -- When each refusal of a lookup is given (RULES, "Refusal numbers" and "Address data list"): its condition, which is the
 -- first met in the order of RULES.
 -- Assumes nothing.
-use Rattle.std.specs.Prelude.{Some, None, Ok, Err, Option, ℕ, ◌≤◌, true, false, List, [], ◌∷◌, ◌++◌, ◌≡◌, length, slice_get}
+use Rattle.std.specs.Prelude.{Some, None, Ok, Err, Option, ℕ, ℤ, ◌≤◌, true, false, List, [], ◌∷◌, ◌++◌, ◌≡◌, length, slice_get}
 use Rattle.std.specs.List.{All}
 use Rattle.gsym_types.specs.declared.Address.{Address}
 use Rattle.gsym_types.specs.declared.FileIndex.{FileIndex}
@@ -10,8 +10,9 @@ use Rattle.gsym_types.specs.declared.Options.{Options}
 use Rattle.gsym_types.specs.declared.Refusal.{Refusal}
 use Rattle.gsym_types.specs.declared.Refusal.TheVariants as refused
 use Rattle.gsym_leb128.specs.declared.Cause.{Cause}
-use Rattle.gsym_linetab.specs.Machine.{header_of}
-use Rattle.gsym_linetab.specs.Rows.{line_row}
+use Rattle.gsym_linetab.specs.Unread.{IsUnread}
+use Rattle.gsym_linetab.specs.Rows.{Run, table_of}
+use Rattle.gsym_linetab.specs.RowFor.{IsRowFor}
 use Rattle.gsym_linetab.specs.declared.LineTableRow.{LineTableRow}
 use Rattle.gsym_inline.specs.ListsFrames.{ListsFrames}
 use Rattle.gsym_inline.specs.Steps.{steps_of}
@@ -24,7 +25,7 @@ use Rattle.gsym_parser.specs.Search.{find_of, Nowhere}
 use Rattle.gsym_parser.specs.Entries.{symbol_at, covered_by}
 use Rattle.gsym_parser.specs.Items.{ItemData}
 use Rattle.gsym_resolver.specs.EntryData.{EntryData, data_at, Entered}
-use Rattle.gsym_resolver.specs.SharedTables.{SharedTables, shared_tables, reads_text, reads_name}
+use Rattle.gsym_resolver.specs.SharedTables.{SharedTables, shared_tables, HasText, HasName}
 use Rattle.gsym_resolver.specs.Known.{Question, question}
 
 -- the first of a list of which P holds: of each before it N does
@@ -38,13 +39,21 @@ pub record First {A : Type 0} (N P : A → Type 0) (xs : List A) : Type 0 where
 
 -- ---- what the items give
 
--- an item gives no row: it is no line table (type 1), or its header reads and no row is found
-abbrev pub GivesNoRow : Question → ItemData → Type 0
-GivesNoRow q item = item.kind ≡ 1 → line_row item.bytes q.symbol q.addr ≡ Ok None
+-- a line table gives a row at the address, or none: its header reads, and of all the rows that its program makes it is
+-- the one before the first that is above the address; where none is above, and one was made, the state at the program's
+-- end; and none where no row was made, and where the first is above (RULES, "Line table")
+pub record TableGives (symbol addr : Address) (bytes : List ℕ) (row : Option LineTableRow) : Type 0 where
+  pub table : Run
+  pub reads : table_of bytes symbol ≡ Ok table
+  pub row_is : IsRowFor table addr row
 
--- it is a line table with a row
+-- an item gives no row: it is no line table (type 1), or one that gives none
+abbrev pub GivesNoRow : Question → ItemData → Type 0
+GivesNoRow q item = item.kind ≡ 1 → TableGives q.symbol q.addr item.bytes None
+
+-- it is a line table that gives this row
 abbrev pub GivesRow : Question → LineTableRow → ItemData → Type 0
-GivesRow q row item = (item.kind ≡ 1) × (line_row item.bytes q.symbol q.addr ≡ Ok (Some row))
+GivesRow q row item = (item.kind ≡ 1) × TableGives q.symbol q.addr item.bytes (Some row)
 
 -- an item gives no frames: it is no inline block (type 2), or one that reads and lists none
 abbrev pub GivesNoFrames : Question → ItemData → Type 0
@@ -68,8 +77,9 @@ pub data FramesAre (q : Question) (items : List ItemData) : List InlineFrame →
 
 -- why an item refuses when it is read, after a row and frames: a line table's header that doesn't read (9), where no row
 -- is known; an inline block's first fault (10 to 14), where inlining is asked for and no frame is known
-pub data ItemRefuses (q : Question) (known : Option LineTableRow) (fs : List InlineFrame) (item : ItemData) : Refusal → Type 0 where
-  header : (c : Cause) → known ≡ None → item.kind ≡ 1 → header_of item.bytes 0 ≡ Err c →
+pub data ItemRefuses (q : Question) (known : Option LineTableRow) (fs : List InlineFrame) (item : ItemData)
+    : Refusal → Type 0 where
+  header : (c : Cause) → known ≡ None → item.kind ≡ 1 → IsUnread item.bytes 0 c →
       ItemRefuses q known fs item refused.UnreadLineHeader
   block : (r : Refusal) → q.inlining ≡ true → fs ≡ [] → item.kind ≡ 2 →
       FirstFault q.room (steps_of q.symbol.0 q.addr.0 item.bytes) r → ItemRefuses q known fs item r
@@ -92,62 +102,84 @@ pub record FirstRefusing (q : Question) (items : List ItemData) (r : Refusal) : 
 pub record HasPosition (t : SharedTables) (index : FileIndex) : Type 0 where
   pub file : FileInfo
   pub there : slice_get t.files index.0 ≡ Some file
-  pub dir : reads_text t file.directory ≡ true
-  pub name : reads_text t file.filename ≡ true
+  pub dir : HasText t file.directory
+  pub name : HasText t file.filename
 
 -- why a position doesn't read: the index (7), the directory (8), then the file name (8)
 pub data NoPosition (t : SharedTables) (index : FileIndex) : Refusal → Type 0 where
   no_file : length t.files ≤ index.0 → NoPosition t index refused.UnknownFile
-  no_dir : (file : FileInfo) → slice_get t.files index.0 ≡ Some file → reads_text t file.directory ≡ false →
+  no_dir : (file : FileInfo) → slice_get t.files index.0 ≡ Some file → (HasText t file.directory → ⊥) →
       NoPosition t index refused.UnreadPath
-  no_file_name : (file : FileInfo) → slice_get t.files index.0 ≡ Some file → reads_text t file.directory ≡ true →
-      reads_text t file.filename ≡ false → NoPosition t index refused.UnreadPath
+  no_file_name : (file : FileInfo) → slice_get t.files index.0 ≡ Some file → HasText t file.directory →
+      (HasText t file.filename → ⊥) → NoPosition t index refused.UnreadPath
 
 -- a later frame reads
 abbrev pub HasCall : SharedTables → InlineFrame → Type 0
-HasCall t f = (reads_name t f.name ≡ true) × HasPosition t f.call_file
+HasCall t f = HasName t f.name × HasPosition t f.call_file
 
 -- why it doesn't: its name (6), then its call site (7, 8)
 pub data NoCall (t : SharedTables) (f : InlineFrame) : Refusal → Type 0 where
-  no_name : reads_name t f.name ≡ false → NoCall t f refused.UnreadName
-  no_site : {r : Refusal} → reads_name t f.name ≡ true → NoPosition t f.call_file r → NoCall t f r
+  no_name : (HasName t f.name → ⊥) → NoCall t f refused.UnreadName
+  no_site : {r : Refusal} → HasName t f.name → NoPosition t f.call_file r → NoCall t f r
 
 -- ---- an entry, and a lookup
 
+-- what is asked of an entry, given what all share, the symbol's address and the entry's data: the wanted address, with
+-- these options, and with room for so many frames
+pub record EntryQuestion : Type 0 where
+  pub tables : SharedTables
+  pub symbol : Address
+  pub entry : EntryData
+  pub addr : Address
+  pub options : Options
+  pub room : ℕ
+
+-- and what that asks of its items
+abbrev pub items_question : EntryQuestion → Question
+items_question q = question q.symbol q.addr q.room q.options.inlining
+
 -- the entry covers the address, its name reads, and code info is asked for
-pub record Asked (t : SharedTables) (symbol : Address) (d : EntryData) (addr : Address) (o : Options) : Type 0 where
-  pub covered : covered_by addr symbol d.size ≡ true
-  pub named : reads_name t d.name ≡ true
-  pub code : o.code_info ≡ true
+pub record Asked (q : EntryQuestion) : Type 0 where
+  pub covered : covered_by q.addr q.symbol q.entry.size ≡ true
+  pub named : HasName q.tables q.entry.name
+  pub code : q.options.code_info ≡ true
 
 -- and the items give this row and these frames
-pub record ItemsGive (t : SharedTables) (symbol : Address) (d : EntryData) (addr : Address) (o : Options) (room : ℕ)
-    (known : Option LineTableRow) (fs : List InlineFrame) : Type 0 where
-  pub asked : Asked t symbol d addr o
-  pub row_is : RowIs (question symbol addr room o.inlining) d.items known
-  pub frames_are : FramesAre (question symbol addr room o.inlining) d.items fs
+pub record ItemsGive (q : EntryQuestion) (known : Option LineTableRow) (fs : List InlineFrame) : Type 0 where
+  pub asked : Asked q
+  pub row_is : RowIs (items_question q) q.entry.items known
+  pub frames_are : FramesAre (items_question q) q.entry.items fs
 
 -- why what an entry says is a refusal, in the order of RULES
-pub data Unanswered (t : SharedTables) (symbol : Address) (d : EntryData) (addr : Address) (o : Options) (room : ℕ) : Refusal → Type 0 where
+pub data Unanswered (q : EntryQuestion) : Refusal → Type 0 where
   -- 1: the symbol doesn't cover the address
-  uncovered : covered_by addr symbol d.size ≡ false → Unanswered t symbol d addr o room refused.UnknownAddress
+  uncovered : covered_by q.addr q.symbol q.entry.size ≡ false → Unanswered q refused.UnknownAddress
   -- 6: its name doesn't read
-  unnamed : covered_by addr symbol d.size ≡ true → reads_name t d.name ≡ false →
-      Unanswered t symbol d addr o room refused.UnreadName
+  unnamed : covered_by q.addr q.symbol q.entry.size ≡ true → (HasName q.tables q.entry.name → ⊥) →
+      Unanswered q refused.UnreadName
   -- 9 to 14: an item refuses
-  unread : {r : Refusal} → Asked t symbol d addr o →
-      FirstRefusing (question symbol addr room o.inlining) d.items r → Unanswered t symbol d addr o room r
+  unread : {r : Refusal} → Asked q → FirstRefusing (items_question q) q.entry.items r → Unanswered q r
   -- 7, 8: the row's position
-  unplaced : {r : Refusal} (row : LineTableRow) (fs : List InlineFrame) → ItemsGive t symbol d addr o room (Some row) fs →
-      NoPosition t row.file_idx r → Unanswered t symbol d addr o room r
+  unplaced : {r : Refusal} (row : LineTableRow) (fs : List InlineFrame) → ItemsGive q (Some row) fs →
+      NoPosition q.tables row.file_idx r → Unanswered q r
   -- 6: the first frame's name
-  first_unnamed : (row : LineTableRow) (f : InlineFrame) (fs : List InlineFrame) →
-      ItemsGive t symbol d addr o room (Some row) (f ∷ fs) → HasPosition t row.file_idx → reads_name t f.name ≡ false →
-      Unanswered t symbol d addr o room refused.UnreadName
+  first_unnamed : (row : LineTableRow) (f : InlineFrame) (fs : List InlineFrame) → ItemsGive q (Some row) (f ∷ fs) →
+      HasPosition q.tables row.file_idx → (HasName q.tables f.name → ⊥) → Unanswered q refused.UnreadName
   -- 6, 7, 8: the first later frame that doesn't read
   uncalled : {r : Refusal} (row : LineTableRow) (f : InlineFrame) (fs : List InlineFrame) →
-      ItemsGive t symbol d addr o room (Some row) (f ∷ fs) → HasPosition t row.file_idx → reads_name t f.name ≡ true →
-      First (HasCall t) (λ g. NoCall t g r) fs → Unanswered t symbol d addr o room r
+      ItemsGive q (Some row) (f ∷ fs) → HasPosition q.tables row.file_idx → HasName q.tables f.name →
+      First (HasCall q.tables) (λ g. NoCall q.tables g r) fs → Unanswered q r
+
+-- what a lookup asks of the entry that it lands on
+abbrev pub entry_question : {file : List ℕ} {addr : Address} → Entered file addr → Options → (room : ℕ) → EntryQuestion
+entry_question {addr = addr} E o room = record {
+  tables = shared_tables E.view;
+  symbol = symbol_at E.view E.index;
+  entry = E.entry;
+  addr = addr;
+  options = o;
+  room = room;
+}
 
 -- why a lookup is a refusal, in the order of RULES
 pub data Met (file : List ℕ) (addr : Address) (o : Options) (room : ℕ) : Refusal → Type 0 where
@@ -159,5 +191,4 @@ pub data Met (file : List ℕ) (addr : Address) (o : Options) (room : ℕ) : Ref
   no_info : (v : View) (i : ℕ) → opened_of file ≡ Ok v → find_of v addr ≡ Some i → data_at v i ≡ None →
       Met file addr o room refused.UnreadInfo
   -- 1 and 6 to 14: what the entry says
-  by_entry : {r : Refusal} (E : Entered file addr) →
-      Unanswered (shared_tables E.view) (symbol_at E.view E.index) E.entry addr o room r → Met file addr o room r
+  by_entry : {r : Refusal} (E : Entered file addr) → Unanswered (entry_question E o room) r → Met file addr o room r

@@ -1,10 +1,10 @@
 -- What all entries share, as a value without places: the string table's bytes, and directory and name of each file
 -- (RULES, "Header and tables").
 -- Assumes nothing.
-use Rattle.std.specs.Prelude.{ℕ, zero, suc, Bool, List, [], ◌∷◌, take, drop, is_some}
+use Rattle.std.specs.Prelude.{ℕ, zero, suc, Bool, List, [], ◌∷◌, take, drop, is_some, IsUtf8}
 use Rattle.std.specs.Int.{w32, from_le_bytes}
 use Rattle.gsym_types.specs.declared.StrOffset.{StrOffset}
-use Rattle.gsym_strtab.specs.Strings.{text_in, name_in}
+use Rattle.gsym_strtab.specs.Strings.{text_in, name_in, EndsBeforeZero}
 use Rattle.gsym_parser.specs.View.{View}
 use Rattle.gsym_parser.specs.declared.entries.FileInfo.{FileInfo}
 
@@ -37,3 +37,14 @@ reads_text t offset = is_some (text_in t.strings offset.0)
 
 unfoldable pub reads_name : SharedTables → StrOffset → Bool
 reads_name t offset = is_some (name_in t.strings offset.0)
+
+-- a string stands at the offset: inside the table, and from there on a zero byte follows, inside it too
+pub record HasText (t : SharedTables) (offset : StrOffset) : Type 0 where
+  pub len : ℕ
+  pub string : EndsBeforeZero (drop offset.0 t.strings) len
+
+-- a name does: a string that is UTF-8
+pub record HasName (t : SharedTables) (offset : StrOffset) : Type 0 where
+  pub len : ℕ
+  pub string : EndsBeforeZero (drop offset.0 t.strings) len
+  pub is_utf8 : IsUtf8 (take len (drop offset.0 t.strings))

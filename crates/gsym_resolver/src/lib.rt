@@ -36,7 +36,7 @@ pub use laws::{
 };
 use positions::position_at;
 
-/// The records of a lookup, which are fewer than the frames of a block.
+/// The records of a lookup, which are fewer than the frames of a block (RULES, "Putting the answer together").
 pub type Records = ArrayVec<Frame, MAX_FRAMES>;
 
 /// The symbol of an address, with its source position if code info is asked for and a line table has one, and without

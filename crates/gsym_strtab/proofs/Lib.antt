@@ -7,5 +7,5 @@ pub mod Runs
 pub mod Counting
 mod Names
 pub mod Texts
-mod Scalars
+pub mod Scalars
 mod Told

@@ -272,3 +272,25 @@ module _ (file : List ℕ) (table : StrTable) (offset : StrOffset) where
 
   pub some-zero : (t : Text) → text_at file table offset ≡ Some t → All (λ b. b ≢ 0) (bytes_from file table offset) → ⊥
   some-zero t e a = let d = (text_at-found t e).1 in a t.len 0 d.inside d.zero_after
+
+-- ------------------------------------------------------------------------------------------------
+-- a string that ends before a zero byte is the one that is read: it ends in one place
+
+one_end : (bs : List ℕ) (n m : ℕ) → EndsBeforeZero bs n → EndsBeforeZero bs m → n < m → ⊥
+one_end bs n m N M l =
+    M.none_before n 0 (omega (arith, l, length-take-le m bs (omega (arith, M.inside))))
+    (get_or-take m bs n 0 l ∙ N.zero_after)
+
+pub same_end : (bs : List ℕ) (n m : ℕ) → EndsBeforeZero bs n → EndsBeforeZero bs m → n ≡ m
+same_end bs n m N M =
+    ⊎_elim
+    (λ (l : n < m). absurd (one_end bs n m N M l))
+    (λ (h : m ≤ n). ⊎_elim (λ (l : m < n). absurd (one_end bs m n M N l)) (λ (k : n ≤ m). omega arith) (cases_lt m n))
+    (cases_lt n m)
+
+pub text_in-ends : (s : List ℕ) (at n : ℕ) → EndsBeforeZero (drop at s) n → text_in s at ≡ Some n
+text_in-ends s at n N = go (text_in s at) refl
+  where
+    go : (x : Option ℕ) → text_in s at ≡ x → text_in s at ≡ Some n
+    go (Some m) e = e ∙ ap Some (same_end (drop at s) m n (text_in-is s at m e).1 N)
+    go None e = absurd (nothing-before (drop at s) (sym (text-begin s at) ∙ e) n 0 N.inside N.zero_after)

@@ -25,6 +25,7 @@ const LENGTHS: [u8; 256] = [
 ];
 
 /// The length of the sequence that a byte starts, or 0 where it starts none (RULES, "Strings").
+// A number and no `Option`: 0 is what the table of RULES itself has there.
 pub fn sequence_len(b: u8) -> u8
     ensures { result ≡ sequence_len b }
 {

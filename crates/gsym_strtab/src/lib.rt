@@ -17,11 +17,12 @@ use scan::{ascii_end, run_end};
 use utf8::char_len;
 pub use utf8::is_utf8;
 
-/// The part of the file that is the string table: place counted from the file's start, and size, both in bytes (RULES,
-/// "Header and tables").
+/// The part of the file that is the string table (RULES, "Header and tables").
 #[derive(Clone, Copy, Debug, PartialEq, Eq, Default, Hash)]
 pub struct StrTable {
+    /// Where it starts, in bytes from the start of the file.
     pub place: usize,
+    /// How many bytes it has.
     pub size: usize,
 }
 
@@ -121,10 +122,7 @@ fn name_in(strings: &[u8], at: usize) -> Option<usize>
         if strings[j] == 0 {
             return Some(j - at);
         }
-        let n = char_len(strings, j);
-        if n == 0 {
-            return None;
-        }
+        let n = char_len(strings, j)?;
         i = j + n;
     }
     None

@@ -31,7 +31,9 @@ pub struct LineNumber(pub u32);
 #[repr(C)]
 #[derive(Clone, Copy, Debug, PartialEq, Eq, Default, Hash)]
 pub struct Text {
+    /// Where it starts, in bytes from the start of the file.
     pub place: usize,
+    /// How many bytes it has.
     pub len: usize,
 }
 
@@ -39,8 +41,11 @@ pub struct Text {
 #[repr(C)]
 #[derive(Clone, Copy, Debug, PartialEq, Eq, Default, Hash)]
 pub struct Position {
+    /// The directory, which may be empty.
     pub dir: Text,
+    /// The name of the file in it.
     pub file: Text,
+    /// The line of that file.
     pub line: LineNumber,
 }
 
@@ -49,7 +54,9 @@ pub struct Position {
 // Two wishes, of which each can stand alone, and no flag beside a value.
 #[derive(Clone, Copy, Debug, PartialEq, Eq, Default, Hash)]
 pub struct Options {
+    /// The source position.
     pub code_info: bool,
+    /// The calls inlined at the address.
     pub inlining: bool,
 }
 
@@ -65,17 +72,27 @@ impl Options {
         code_info: true,
         inlining: false,
     };
+
+    /// Neither: the symbol alone (RULES, "Calls").
+    pub const NAME: Options = Options {
+        code_info: false,
+        inlining: false,
+    };
 }
 
-/// What a lookup answers (RULES, "Putting the answer together"): where the symbol starts, its name, its position if it
-/// has one, how many records were written, and its size in bytes, 0 where it covers everything from its start on.
+/// What a lookup answers of the symbol of an address (RULES, "Putting the answer together").
 // The size stands last: in front of the name it would leave a gap, and the name would be copied with the gap.
 #[derive(Clone, Copy, Debug, PartialEq, Eq, Default, Hash)]
 pub struct Answer {
+    /// Where the symbol starts.
     pub addr: Address,
+    /// Its name, which is UTF-8.
     pub name: Text,
+    /// The position that execution had reached in it, if one is asked for and known.
     pub position: Option<Position>,
+    /// How many records were written to the front of the lent list.
     pub count: usize,
+    /// Its size in bytes, 0 where it covers everything from its start on.
     pub size: u32,
 }
 
@@ -83,8 +100,11 @@ pub struct Answer {
 #[repr(C)]
 #[derive(Clone, Copy, Debug, PartialEq, Eq, Default, Hash)]
 pub struct InlineFrame {
+    /// The name of the function.
     pub name: StrOffset,
+    /// The file in which it was called.
     pub call_file: FileIndex,
+    /// The line at which it was called, 4,294,967,295 where the block has one above.
     pub call_line: LineNumber,
 }
 
@@ -93,7 +113,9 @@ pub struct InlineFrame {
 #[repr(C)]
 #[derive(Clone, Copy, Debug, PartialEq, Eq, Default, Hash)]
 pub struct Frame {
+    /// The name of the function, which is UTF-8.
     pub name: Text,
+    /// The position that execution had reached in it.
     pub position: Position,
 }
 

@@ -13,16 +13,19 @@ use gsym::{Address, InlineFrame};
 use gsym_leb128::Cause;
 use gsym_linetab::LineTableRow;
 
-/// A LEB128 number. tag 0: its value (a signed one as its 64 bits) and the place after it; 1: it ended short; 2: it is
-/// too wide. Where there is no value the other fields are 0.
+/// A LEB128 number (RULES, "LEB128"). Where there is no value every field but the tag is 0.
 #[repr(C)]
 #[derive(Clone, Copy, Debug, PartialEq, Eq, Default, Hash)]
 pub struct NumberAnswer {
+    /// Its value, a signed one as its 64 bits.
     pub value: u64,
+    /// The place after it.
     pub next: usize,
+    /// 0: there is a value; 1: the number ended short; 2: it is too wide.
     pub tag: u32,
 }
 
+// As C has it: a tag in place of the cause, and zeros beside it; C has no `Result`.
 fn unread(cause: Cause) -> NumberAnswer
     ensures { result ≡ numberless cause }
 {
@@ -68,17 +71,21 @@ pub extern "C" fn gsym_signed(bytes: &[u8], at: usize) -> NumberAnswer
     }
 }
 
-/// The row of an address. tag 0: this row; 1: there is none; 2: the header ended short; 3: a number of it is too
-/// wide. Where there is no row the other fields are 0.
+/// The row of an address (RULES, "Line table"). Where there is no row every field but the tag is 0.
 #[repr(C)]
 #[derive(Clone, Copy, Debug, PartialEq, Eq, Default, Hash)]
 pub struct LineAnswer {
+    /// The first address of the row.
     pub addr: u64,
+    /// The row of the file table.
     pub file: u32,
+    /// The line.
     pub line: u32,
+    /// 0: there is a row; 1: there is none; 2: the header ended short; 3: a number of it is too wide.
     pub tag: u32,
 }
 
+// As C has it: a tag says why there is no row, and zeros stand beside it; C has no `Option`.
 fn without_row(tag: u32) -> LineAnswer
     ensures { result ≡ rowless tag }
 {
@@ -90,6 +97,7 @@ fn without_row(tag: u32) -> LineAnswer
     }
 }
 
+// As C has it: a structure with a tag in place of the nested `Result` and `Option`.
 fn laid_line(read: Result<Option<LineTableRow>, Cause>) -> LineAnswer
     ensures { result ≡ laid_line read }
 {
@@ -114,12 +122,14 @@ pub extern "C" fn gsym_line_row(block: &[u8], symbol: u64, addr: u64) -> LineAns
     laid_line(gsym_linetab::line_row(block, Address(symbol), Address(addr)))
 }
 
-/// What reading one inline block gives: number 0 and how many frames, or the refusal's number and 0.
+/// What reading one inline block gives (RULES, "Inline tree").
 #[repr(C)]
 #[derive(Clone, Copy, Debug, PartialEq, Eq, Default, Hash)]
 pub struct BlockAnswer {
+    /// How many frames, 0 where the block is refused.
     pub count: usize,
-    // As C has it: a number, 0 where there is no refusal.
+    /// The number of the refusal, 0 where there is none.
+    // As C has it.
     pub number: u8,
 }
 

@@ -9,6 +9,7 @@ mod files;
 mod random;
 
 use random::Random;
+use std::fmt::Debug;
 use std::mem::size_of;
 use std::time::Instant;
 
@@ -62,7 +63,9 @@ type Lookup = unsafe extern "C" fn(*const u8, usize, u64, u32, *mut Frame, usize
 type Block = unsafe extern "C" fn(*const u8, usize, u64, u64, *mut InlineFrame, usize) -> Listed;
 
 extern "C" {
+    #[link_name = "gsym_lookup_2"]
     fn gsym_lookup(file: *const u8, len: usize, addr: u64, options: u32, frames: *mut Frame, room: usize) -> Answer;
+    #[link_name = "gsym_block_frames_2"]
     fn gsym_block_frames(
         block: *const u8,
         len: usize,
@@ -98,7 +101,7 @@ struct Given<A, F> {
 }
 
 // Two that differ, in words: both answers, and the first record that differs.
-fn told<A: std::fmt::Debug, F: std::fmt::Debug + PartialEq>(old: &Given<A, F>, new: &Given<A, F>) -> String {
+fn told<A: Debug, F: Debug + PartialEq>(old: &Given<A, F>, new: &Given<A, F>) -> String {
     let record = (0..LIST).find(|i| old.list[*i] != new.list[*i]);
     let record = record.map_or(String::new(), |i| {
         format!("\n  record {i}\n    old {:?}\n    new {:?}", old.list[i], new.list[i])
@@ -166,10 +169,22 @@ fn hex(bytes: &[u8]) -> String {
 }
 
 impl Tally {
-    fn differs(&mut self, what: impl FnOnce() -> String) {
+    // Counts a number that this tree's library gave, and says where what it gave is not what the old one gave.
+    fn compare<A: Debug + PartialEq, F: Debug + PartialEq>(
+        &mut self,
+        number: u32,
+        old: &Given<A, F>,
+        new: &Given<A, F>,
+        asked: impl FnOnce() -> String,
+        bytes: &[u8],
+    ) {
+        self.numbers[number.min(15) as usize] += 1;
+        if new == old {
+            return;
+        }
         self.differ += 1;
         if self.differ <= 3 && self.fault == 0 {
-            println!("  differs: {}", what());
+            println!("  differs: {}{}\n  bytes {}", asked(), told(old, new), hex(bytes));
         }
     }
 
@@ -177,22 +192,16 @@ impl Tally {
         let old = look(old_gsym_lookup, file, addr, options, room);
         let mut new = look(gsym_lookup, file, addr, options, room);
         spoil(self.fault, &mut new);
-        self.numbers[new.answer.number.min(15) as usize] += 1;
-        if new != old {
-            let told = told(&old, &new);
-            self.differs(|| format!("lookup {addr:#x}, options {options:#x}, room {room}{told}\n  file {}", hex(file)));
-        }
+        let asked = || format!("lookup {addr:#x}, options {options:#x}, room {room}");
+        self.compare(new.answer.number, &old, &new, asked, file);
     }
 
     fn block(&mut self, block: &[u8], symbol: u64, addr: u64, room: usize) {
         let old = list(old_gsym_block_frames, block, symbol, addr, room);
         let mut new = list(gsym_block_frames, block, symbol, addr, room);
         spoil_block(self.fault, &mut new);
-        self.numbers[new.answer.number.min(15) as usize] += 1;
-        if new != old {
-            let told = told(&old, &new);
-            self.differs(|| format!("block of {symbol:#x} at {addr:#x}, room {room}{told}\n  block {}", hex(block)));
-        }
+        let asked = || format!("block of {symbol:#x} at {addr:#x}, room {room}");
+        self.compare(new.answer.number, &old, &new, asked, block);
     }
 
     // A lookup, and the single blocks that the bytes behind some place would be.

@@ -10,5 +10,5 @@ pub returns-in_err-position : goal.returns-in_err-position
 returns-in_err-position g c =
     let p = err_from_is_err_and c.from_residual-in_err-position.result c.from_residual-in_err-position.ensures.1 in
     rw (p.1, p.2)
-    (with_refused _ _ _ _ _ _ _ _ c.in-Some.ensures.cases.0 (sym c.name_at.ensures ∙ c.in_ok-name.ensures.ok_part)
+    (with_refused _ _ _ _ _ _ _ _ c.in-Some.ensures.cases.0 (sym c.name_at.ensures.exact ∙ c.in_ok-name.ensures.ok_part)
     (ap (λ w. placed_with w c.push_later.new.records.items) (sym c.in_err-position.was) ∙ c.push_later.ensures))

@@ -1,6 +1,6 @@
 -- `gsym_strtab::name_in` meets its contract. The invariant: the bytes from `at` to `i` are passed, the name goes on at `i`.
 -- Assumes nothing.
-use Rattle.std.proofs.Common.{ℕ, ◌+◌, List, [], ◌≡◌, drop, arith}
+use Rattle.std.proofs.Common.{ℕ, ◌+◌, List, [], ◌≡◌, refl, drop, arith}
 use Rattle.gsym_strtab.specs.Utf8.{range}
 use Rattle.gsym_strtab.specs.Steps.{run_len}
 use Rattle.gsym_strtab.specs.Strings.{name_in}
@@ -27,18 +27,19 @@ returns-then-strings-j-eq0 c =
     ended (past c.loop-i.invariant c.ascii_end-j.ensures)
     (name-zero _ _ c.if-strings-j.false c.if-strings-j-eq0.true)
 
-pub returns-then-n-eq0 : goal.returns-then-n-eq0
-returns-then-n-eq0 c =
-    failed (past c.loop-i.invariant c.ascii_end-j.ensures)
-    (name-none _ _ c.if-strings-j.false c.if-strings-j-eq0.false _ c.char_len-n.ensures c.if-n-eq0.true)
+pub returns-in_err-n : goal.returns-in_err-n
+returns-in_err-n c =
+    rw c.from_residual.ensures
+    (failed (past c.loop-i.invariant c.ascii_end-j.ensures)
+    (name-none _ _ c.if-strings-j.false c.if-strings-j-eq0.false _ c.in_err-n.ensures.none refl))
 
 pub overflow_add-i : goal.overflow_add-i
-overflow_add-i c = omega (arith, char-fits _ _ c.if-strings-j.false _ c.char_len-n.ensures c.if-n-eq0.false)
+overflow_add-i c = omega (arith, char-fits _ _ c.if-strings-j.false _ c.in_ok-n.ensures.some.0 c.in_ok-n.ensures.some.1)
 
 pub loop-i-preserved : goal.loop-i-preserved
 loop-i-preserved c =
     pass (past c.loop-i.invariant c.ascii_end-j.ensures) _
-    (name-next _ _ c.if-strings-j.false c.if-strings-j-eq0.false _ c.char_len-n.ensures c.if-n-eq0.false)
+    (name-next _ _ c.if-strings-j.false c.if-strings-j-eq0.false _ c.in_ok-n.ensures.some.0 c.in_ok-n.ensures.some.1)
 
 pub returns : goal.returns
 returns c = failed c.loop-i.invariant (name-over _ _ c.loop-i-test.false)

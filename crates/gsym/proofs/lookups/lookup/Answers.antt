@@ -7,6 +7,10 @@ pub returns-clause-refused : goal.returns-clause-refused
 returns-clause-refused c =
     let e = c.lookup_by.ensures in (promised _ _ _ _ _ _ e.exact e.stays e.kept e.bare).refused
 
+pub returns-clause-unmet : goal.returns-clause-unmet
+returns-clause-unmet c =
+    let e = c.lookup_by.ensures in (promised _ _ _ _ _ _ e.exact e.stays e.kept e.bare).unmet
+
 pub returns-clause-blocks : goal.returns-clause-blocks
 returns-clause-blocks c =
     let e = c.lookup_by.ensures in (promised _ _ _ _ _ _ e.exact e.stays e.kept e.bare).blocks
@@ -26,6 +30,14 @@ returns-clause-covered c =
 pub returns-clause-below : goal.returns-clause-below
 returns-clause-below c =
     let e = c.lookup_by.ensures in (promised _ _ _ _ _ _ e.exact e.stays e.kept e.bare).below
+
+pub returns-clause-name : goal.returns-clause-name
+returns-clause-name c =
+    let e = c.lookup_by.ensures in (promised _ _ _ _ _ _ e.exact e.stays e.kept e.bare).name
+
+pub returns-clause-names : goal.returns-clause-names
+returns-clause-names c =
+    let e = c.lookup_by.ensures in (promised _ _ _ _ _ _ e.exact e.stays e.kept e.bare).names
 
 pub returns-clause-within : goal.returns-clause-within
 returns-clause-within c =

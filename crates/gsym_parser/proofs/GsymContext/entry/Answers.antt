@@ -6,8 +6,8 @@ use Rattle.gsym_parser.specs.Search.{entry_number}
 use Rattle.gsym_parser.proofs.Table.{entry_there}
 use Rattle.gsym_parser.proofs.GsymContext.entry.Goals as goal
 
-pub returns : goal.returns
-returns c =
+pub returns-clause-exact : goal.returns-clause-exact
+returns-clause-exact c =
     let t = c.args.self.now.tables in
     entry_there (view c.args.self.now) _ _ (omega arith)
     (c.entry_at.ensures

@@ -17,7 +17,7 @@ unfolding byte_front u16_front u32_front u64_front u8_at u16_at u32_at u64_at nu
 returns c = record {
   opens = refl;
   cut = refl;
-  magic-first = refl;
+  magic_first = refl;
   version = refl;
   entries = refl;
   symbol = refl;
@@ -25,7 +25,7 @@ returns c = record {
   covered = refl;
   infos = refl;
   row = refl;
-  no-row = refl;
+  no_row = refl;
   items = refl;
   torn = refl;
   ends = refl;

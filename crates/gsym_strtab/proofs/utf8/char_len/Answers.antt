@@ -18,58 +18,65 @@ module _ {s : List ℕ} {i n : ℕ} where
   threes : Twos s i n → 3 ≤ n → (t : Bool) → t ≡ within tail (get_or s (i + 2) 0) → t ≡ true → Threes s i n
   threes h k t e f = record { twos = h; more = k; third-is = sym e ∙ f }
 
-pub returns-then-n-lt2 : goal.returns-then-n-lt2
-returns-then-n-lt2 c =
+pub returns-then-n-eq0-clause-none : goal.returns-then-n-eq0-clause-none
+returns-then-n-eq0-clause-none c =
     let l : Lead c.args.s.now c.args.at c.sequence_len-n.result = lead c.requires (omega arith) c.sequence_len-n.ensures in
-    one-is l c.if-n-lt2.true
+    sym c.if-n-eq0.true ∙ one-is l (omega arith)
 
-pub returns-then-s-at : goal.returns-then-s-at
-returns-then-s-at c =
+pub returns-then-n-lt2-clause-some : goal.returns-then-n-lt2-clause-some
+returns-then-n-lt2-clause-some c =
+    let l : Lead c.args.s.now c.args.at c.sequence_len-n.result = lead c.requires (omega arith) c.sequence_len-n.ensures in
+    (one-is l c.if-n-lt2.true, c.if-n-eq0.false)
+
+pub returns-then-s-at-clause-none : goal.returns-then-s-at-clause-none
+returns-then-s-at-clause-none c =
     let l : Lead c.args.s.now c.args.at c.sequence_len-n.result = lead c.requires (omega arith) c.sequence_len-n.ensures in
     cut l c.if-n-lt2.false (omega arith)
 
-pub returns-then-not-is_second : goal.returns-then-not-is_second
-returns-then-not-is_second c =
+pub returns-then-not-is_second-clause-none : goal.returns-then-not-is_second-clause-none
+returns-then-not-is_second-clause-none c =
     let l : Lead c.args.s.now c.args.at c.sequence_len-n.result = lead c.requires (omega arith) c.sequence_len-n.ensures in
     second-wrong l c.if-n-lt2.false (omega arith)
     (sym c.is_second.ensures ∙ c.if-not-is_second.true)
 
-pub returns-then-follows : goal.returns-then-follows
-returns-then-follows c =
+pub returns-then-follows-clause-some : goal.returns-then-follows-clause-some
+returns-then-follows-clause-some c =
     let l : Lead c.args.s.now c.args.at c.sequence_len-n.result = lead c.requires (omega arith) c.sequence_len-n.ensures in
-    two-are l c.if-n-lt2.false c.if-n-lt3.true (omega arith) (sym c.is_tail-follows.ensures ∙ c.if-follows.true)
+    (two-are l c.if-n-lt2.false c.if-n-lt3.true (omega arith) (sym c.is_tail-follows.ensures ∙ c.if-follows.true), λ z. absurd (omega arith))
 
-pub returns-else-follows : goal.returns-else-follows
-returns-else-follows c =
+pub returns-else-follows-clause-none : goal.returns-else-follows-clause-none
+returns-else-follows-clause-none c =
     let l : Lead c.args.s.now c.args.at c.sequence_len-n.result = lead c.requires (omega arith) c.sequence_len-n.ensures in
     two-wrong l c.if-n-lt2.false c.if-n-lt3.true (omega arith) (sym c.is_tail-follows.ensures ∙ c.if-follows.false)
 
-pub returns-then-not-is_tail : goal.returns-then-not-is_tail
-returns-then-not-is_tail c =
+pub returns-then-not-is_tail-clause-none : goal.returns-then-not-is_tail-clause-none
+returns-then-not-is_tail-clause-none c =
     let l : Lead c.args.s.now c.args.at c.sequence_len-n.result = lead c.requires (omega arith) c.sequence_len-n.ensures in
     let t = twos l c.if-n-lt2.false (omega arith) _ c.is_second.ensures c.if-not-is_second.false in
     third-wrong t c.if-n-lt3.false
     (sym c.is_tail.ensures ∙ c.if-not-is_tail.true)
 
-pub returns-then-n-lt4 : goal.returns-then-n-lt4
-returns-then-n-lt4 c =
+pub returns-then-n-lt4-clause-some : goal.returns-then-n-lt4-clause-some
+returns-then-n-lt4-clause-some c =
     let l : Lead c.args.s.now c.args.at c.sequence_len-n.result = lead c.requires (omega arith) c.sequence_len-n.ensures in
     let t = twos l c.if-n-lt2.false (omega arith) _ c.is_second.ensures c.if-not-is_second.false in
     let h = threes t c.if-n-lt3.false _ c.is_tail.ensures c.if-not-is_tail.false in
-    three-are h c.if-n-lt4.true
+    (three-are h c.if-n-lt4.true, λ z. absurd (omega arith))
 
-pub returns-then-not-is_tail-2 : goal.returns-then-not-is_tail-2
-returns-then-not-is_tail-2 c =
+pub returns-then-not-is_tail-2-clause-none : goal.returns-then-not-is_tail-2-clause-none
+returns-then-not-is_tail-2-clause-none c =
     let l : Lead c.args.s.now c.args.at c.sequence_len-n.result = lead c.requires (omega arith) c.sequence_len-n.ensures in
     let t = twos l c.if-n-lt2.false (omega arith) _ c.is_second.ensures c.if-not-is_second.false in
     let h = threes t c.if-n-lt3.false _ c.is_tail.ensures c.if-not-is_tail.false in
     fourth-wrong h c.if-n-lt4.false
     (sym c.is_tail-2.ensures ∙ c.if-not-is_tail-2.true)
 
-pub returns : goal.returns
-returns c =
+pub returns-clause-some : goal.returns-clause-some
+returns-clause-some c =
     let l : Lead c.args.s.now c.args.at c.sequence_len-n.result = lead c.requires (omega arith) c.sequence_len-n.ensures in
     let t = twos l c.if-n-lt2.false (omega arith) _ c.is_second.ensures c.if-not-is_second.false in
-    let h = threes t c.if-n-lt3.false _ c.is_tail.ensures c.if-not-is_tail.false in
-    four_are h c.if-n-lt4.false
-    (sym c.is_tail-2.ensures ∙ c.if-not-is_tail-2.false)
+    let h = threes t c.if-n-lt3.false _ c.is_tail.ensures c.if-not-is_tail.false in (
+      four_are h c.if-n-lt4.false
+          (sym c.is_tail-2.ensures ∙ c.if-not-is_tail-2.false),
+      λ z. absurd (omega arith),
+    )

@@ -1,0 +1,15 @@
+-- What the callers make of an answer.
+-- Assumes nothing.
+use Rattle.std.specs.Prelude.{◌-◌, max, fold, map, length, slice_get, option_map, unwrap_or, List}
+use Rattle.gsym_types.specs.declared.Frame.{Frame}
+use Rattle.gsym_types.specs.declared.LineNumber.{LineNumber}
+use Rattle.gsym_types.specs.declared.Text.{Text}
+use Rattle.gsym_resolver.specs.Lookup.{LookedUp}
+
+-- the highest line of records, 0 where there are none
+abbrev pub highest_of : List Frame → LineNumber
+highest_of records = record { 0 = fold max 0 (map (λ f. f.position.line.0) records) }
+
+-- the name of the last record, or the symbol's
+abbrev pub innermost_name : LookedUp → Text
+innermost_name l = unwrap_or (option_map (λ f. f.name) (slice_get l.frames (length l.frames - 1))) l.answer.name

@@ -1,0 +1,17 @@
+//! What tools print of an answer (RULES, "What the tools print"), into bytes that the caller lends.
+#![tactic(auto)]
+
+mod frames;
+mod json;
+mod laws;
+mod page;
+mod pieces;
+mod printing;
+mod view;
+mod words;
+
+pub use frames::refusal_name;
+pub use laws::plain_texts;
+pub use printing::{Outcome, Printed, answer, answers, refusal_text, shown};
+pub use view::{Form, View};
+pub use words::{address_of, next_word};

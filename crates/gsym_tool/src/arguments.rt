@@ -1,0 +1,155 @@
+//! The words of the command line as bytes: a word need not be UTF-8. Those of an @FILE stand in its place.
+use super::files::{copy, read_more};
+use super::trouble::Trouble;
+use std::alloc::{AllocError, Global};
+use std::env::{Env, FillError};
+use std::fs::File;
+
+// The most that an @FILE may have.
+const MOST: usize = 1 << 24;
+
+// One argument, or `None` past the last. The room doubles until it fits.
+fn argument(rt: &HostRuntime, place: usize) -> Result<Option<Vec<u8>>, Trouble> {
+    let mut size = 256usize;
+    for _ in 0..32 {
+        let mut room = vec![in rt.alloc(); 0u8; size]?;
+        match rt.arg(place, &mut room) {
+            Ok(len) => {
+                room.truncate(len);
+                return Ok(Some(room));
+            }
+            Err(FillError::NotPresent) => return Ok(None),
+            Err(FillError::TooLong) => size = size.saturating_mul(2),
+        }
+    }
+    Err(Trouble::Memory)
+}
+
+fn push(words: &mut Vec<Vec<u8>>, word: Vec<u8>) -> Result<(), AllocError> {
+    match words.push(word) {
+        Ok(()) => Ok(()),
+        Err(_) => Err(AllocError),
+    }
+}
+
+// What is read of a text with words in it.
+#[derive(Drop)]
+struct Reading {
+    // The word so far.
+    word: Vec<u8>,
+    // Whether there is one.
+    is_open: bool,
+    // The quote that is open, or 0.
+    quote: u8,
+    // Whether the byte before is a backslash.
+    is_kept: bool,
+}
+
+fn parts(byte: u8) -> bool {
+    byte == 32 || (byte >= 9 && byte <= 13)
+}
+
+impl Reading {
+    // Ends the word, if there is one.
+    fn end(&mut self, alloc: Global, words: &mut Vec<Vec<u8>>) -> Result<(), AllocError> {
+        if !self.is_open {
+            return Ok(());
+        }
+        let word = copy(alloc, &self.word)?;
+        self.word.clear();
+        self.is_open = false;
+        push(words, word)
+    }
+
+    // A byte of a word.
+    fn byte(&mut self, byte: u8) -> Result<(), AllocError> {
+        self.is_open = true;
+        if self.is_kept {
+            self.is_kept = false;
+            return self.keep(byte);
+        }
+        if byte == b'\\' {
+            self.is_kept = true;
+            return Ok(());
+        }
+        if self.quote != 0 {
+            if byte == self.quote {
+                self.quote = 0;
+                return Ok(());
+            }
+            return self.keep(byte);
+        }
+        if byte == b'\'' || byte == b'"' {
+            self.quote = byte;
+            return Ok(());
+        }
+        self.keep(byte)
+    }
+
+    fn keep(&mut self, byte: u8) -> Result<(), AllocError> {
+        match self.word.push(byte) {
+            Ok(()) => Ok(()),
+            Err(_) => Err(AllocError),
+        }
+    }
+}
+
+// The arguments in a text: parted by white space; quotes keep it, and a backslash keeps the byte behind it.
+fn push_words(alloc: Global, words: &mut Vec<Vec<u8>>, text: &[u8]) -> Result<(), AllocError> {
+    let mut reading = Reading {
+        word: Vec::new(alloc),
+        is_open: false,
+        quote: 0,
+        is_kept: false,
+    };
+    for byte in text {
+        if parts(*byte) && reading.quote == 0 && !reading.is_kept {
+            reading.end(alloc, words)?;
+        } else {
+            reading.byte(*byte)?;
+        }
+    }
+    if reading.is_kept {
+        reading.keep(b'\\')?;
+    }
+    reading.end(alloc, words)
+}
+
+// The text of an @FILE; none where it can't be opened.
+fn file_text(rt: &HostRuntime, word: &[u8]) -> Result<Option<Vec<u8>>, Trouble> {
+    let Some((first, name)) = word.split_first() else {
+        return Ok(None);
+    };
+    if *first != b'@' {
+        return Ok(None);
+    }
+    let Ok(path) = str::from_utf8(name) else {
+        return Ok(None);
+    };
+    let Ok(file) = File::open(rt, path) else {
+        return Ok(None);
+    };
+    let mut text = Vec::new(rt.alloc());
+    if let Err(error) = read_more(&file, MOST as u64 + 1, &mut text) {
+        return Err(Trouble::Unread(copy(rt.alloc(), word)?, error));
+    }
+    if text.len() > MOST {
+        return Err(Trouble::File(copy(rt.alloc(), word)?, "more than 16 MiB of arguments"));
+    }
+    Ok(Some(text))
+}
+
+/// All arguments but the program's name.
+pub fn arguments(rt: &HostRuntime) -> Result<Vec<Vec<u8>>, Trouble> {
+    let mut words = Vec::new(rt.alloc());
+    for place in 1..usize::MAX {
+        let Some(word) = argument(rt, place)? else {
+            break;
+        };
+        match file_text(rt, &word)? {
+            Some(text) => push_words(rt.alloc(), &mut words, &text)?,
+            None => push(&mut words, word)?,
+        }
+    }
+    Ok(words)
+}

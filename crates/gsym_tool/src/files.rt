@@ -1,0 +1,129 @@
+//! Files, read whole up to a limit.
+use super::trouble::Trouble;
+use gsym::{Address, Options, Refusal};
+use std::alloc::{AllocError, Global};
+use std::fs::File;
+use std::io::{self, Read};
+
+// The most that is read of a symbol file.
+const MOST: usize = 1 << 30;
+
+// How many bytes magic and version have.
+const START: u64 = 6;
+
+/// Bytes of its own.
+pub fn copy(alloc: Global, bytes: &[u8]) -> Result<Vec<u8>, AllocError> {
+    let mut list = Vec::new(alloc);
+    list.extend_from_slice(bytes)?;
+    Ok(list)
+}
+
+/// The next bytes of a file, as many as there are up to a limit, behind those that are there.
+pub fn read_more(file: &File, limit: u64, bytes: &mut Vec<u8>) -> io::Result<()> {
+    let mut part = file.take(limit);
+    part.read_to_end(bytes)?;
+    Ok(())
+}
+
+// Why a file, or its first bytes, is refused.
+fn refusal_of(file: &[u8]) -> Option<Refusal> {
+    match gsym::lookup(file, Address(0), Options::default(), &mut []) {
+        Err(refusal) => Some(refusal),
+        Ok(_) => None,
+    }
+}
+
+fn is_elf(file: &[u8]) -> bool {
+    file.starts_with(b"\x7fELF".as_slice())
+}
+
+fn is_swapped(file: &[u8]) -> bool {
+    file.starts_with(b"GSYM".as_slice())
+}
+
+// Magic and version, of which a lookup says 3 or 4 as soon as they are there, whatever else is missing.
+fn judge_start(alloc: Global, name: &[u8], file: &[u8]) -> Result<(), Trouble> {
+    match refusal_of(file) {
+        Some(Refusal::WrongMagic) => {
+            let name = copy(alloc, name)?;
+            if is_elf(file) {
+                return Err(Trouble::File(
+                    name,
+                    "an ELF file; make the symbol file with llvm-gsymutil --convert",
+                ));
+            }
+            if is_swapped(file) {
+                return Err(Trouble::File(name, "refused: 3, a GSYM file of the other byte order"));
+            }
+            Err(Trouble::Refused(name, Refusal::WrongMagic))
+        }
+        Some(Refusal::WrongVersion) => {
+            Err(Trouble::Refused(copy(alloc, name)?, Refusal::WrongVersion))
+        }
+        _ => Ok(()),
+    }
+}
+
+// All bytes, once they are there.
+fn judge(alloc: Global, name: &[u8], file: &[u8]) -> Result<(), Trouble> {
+    if file.is_empty() {
+        return Err(Trouble::File(copy(alloc, name)?, "the file is empty"));
+    }
+    judge_start(alloc, name, file)?;
+    match refusal_of(file) {
+        Some(Refusal::TooFewBytes) => {
+            Err(Trouble::Refused(copy(alloc, name)?, Refusal::TooFewBytes))
+        }
+        _ => Ok(()),
+    }
+}
+
+// An error of reading a file, with the file's name.
+fn unread(alloc: Global, name: &[u8], error: io::Error) -> Trouble {
+    match copy(alloc, name) {
+        Ok(name) => Trouble::Unread(name, error),
+        Err(_) => Trouble::Memory,
+    }
+}
+
+fn read_named(
+    alloc: Global,
+    name: &[u8],
+    file: &File,
+    limit: u64,
+    bytes: &mut Vec<u8>,
+) -> Result<(), Trouble> {
+    match read_more(file, limit, bytes) {
+        Ok(()) => Ok(()),
+        Err(error) => Err(unread(alloc, name, error)),
+    }
+}
+
+fn opened(rt: &HostRuntime, name: &[u8]) -> Result<File, Trouble> {
+    let alloc = rt.alloc();
+    let Ok(path) = str::from_utf8(name) else {
+        return Err(Trouble::File(
+            copy(alloc, name)?,
+            "a file name that is not UTF-8 can't be opened",
+        ));
+    };
+    match File::open(rt, path) {
+        Ok(file) => Ok(file),
+        Err(error) => Err(unread(alloc, name, error)),
+    }
+}
+
+/// The bytes of a symbol file whose header and tables read. An endless one ends at once.
+pub fn symbols(rt: &HostRuntime, name: &[u8]) -> Result<Vec<u8>, Trouble> {
+    let alloc = rt.alloc();
+    let file = opened(rt, name)?;
+    let mut bytes = Vec::new(alloc);
+    read_named(alloc, name, &file, START, &mut bytes)?;
+    judge_start(alloc, name, &bytes)?;
+    read_named(alloc, name, &file, MOST as u64, &mut bytes)?;
+    if bytes.len() > MOST {
+        return Err(Trouble::File(copy(alloc, name)?, "more than 1 GiB"));
+    }
+    judge(alloc, name, &bytes)?;
+    Ok(bytes)
+}

@@ -1,0 +1,101 @@
+//! Header and tables of a file.
+use super::files::{copy, symbols};
+use super::options::Info;
+use super::trouble::Trouble;
+use gsym_parser::{GsymContext, Tables};
+use std::alloc::Global;
+use std::io::{self, Write};
+
+// The UUID as a build id, in hexadecimal digits.
+fn push_build_id(text: &mut Vec<u8>, file: &[u8]) -> io::Result<()> {
+    if file.len() < 48 {
+        return Ok(());
+    }
+    let len = (file[7] as usize).min(20);
+    for byte in &file[28..28 + len] {
+        write!(text, "{byte:02x}")?;
+    }
+    Ok(())
+}
+
+// A table: its name, its place and how many bytes it has.
+fn push_table(text: &mut Vec<u8>, name: &str, place: usize, size: u64) -> io::Result<()> {
+    writeln!(text, "{name}{size} bytes at {place}")
+}
+
+fn push_json_table(text: &mut Vec<u8>, name: &str, place: usize, size: u64) -> io::Result<()> {
+    write!(text, ",\"{name}\":{{\"place\":{place},\"size\":{size}}}")
+}
+
+// What is told, as lines.
+fn push_lines(text: &mut Vec<u8>, file: &[u8], t: Tables) -> io::Result<()> {
+    let count = t.count as u64;
+    writeln!(text, "version      1")?;
+    writeln!(text, "base         0x{:x}", t.base.0)?;
+    writeln!(text, "addresses    {count}")?;
+    writeln!(text, "offset size  {}", t.offset_size)?;
+    writeln!(text, "files        {}", t.file_count)?;
+    write!(text, "build id     ")?;
+    push_build_id(text, file)?;
+    writeln!(text, "")?;
+    push_table(text, "addresses    ", t.addrs, count * t.offset_size as u64)?;
+    push_table(text, "offsets      ", t.offsets, count * 4)?;
+    push_table(text, "files        ", t.files, t.file_count as u64 * 8)?;
+    push_table(
+        text,
+        "strings      ",
+        t.strings.place,
+        t.strings.size as u64,
+    )?;
+    writeln!(text, "file         {} bytes", file.len())
+}
+
+// The same as one JSON object.
+fn push_json(text: &mut Vec<u8>, file: &[u8], t: Tables) -> io::Result<()> {
+    let count = t.count as u64;
+    write!(
+        text,
+        "{{\"version\":1,\"base\":\"0x{:x}\",\"addresses\":{count}",
+        t.base.0
+    )?;
+    write!(
+        text,
+        ",\"offset_size\":{},\"files\":{}",
+        t.offset_size, t.file_count
+    )?;
+    write!(text, ",\"build_id\":\"")?;
+    push_build_id(text, file)?;
+    write!(text, "\"")?;
+    push_json_table(text, "address_table", t.addrs, count * t.offset_size as u64)?;
+    push_json_table(text, "offset_table", t.offsets, count * 4)?;
+    push_json_table(text, "file_table", t.files, t.file_count as u64 * 8)?;
+    push_json_table(text, "strings", t.strings.place, t.strings.size as u64)?;
+    writeln!(text, ",\"size\":{}}}", file.len())
+}
+
+fn info_text(alloc: Global, json: bool, file: &[u8], t: Tables) -> io::Result<Vec<u8>> {
+    let mut text = Vec::new(alloc);
+    if json {
+        push_json(&mut text, file, t)?;
+    } else {
+        push_lines(&mut text, file, t)?;
+    }
+    Ok(text)
+}
+
+/// Tells what a file has; the status of the run.
+pub fn tell(rt: &HostRuntime, asked: &Info) -> Result<u8, Trouble> {
+    let alloc = rt.alloc();
+    let file = symbols(rt, &asked.file)?;
+    let tables = match GsymContext::parse_header(&file) {
+        Ok(opened) => opened.tables,
+        Err(refusal) => return Err(Trouble::Refused(copy(alloc, &asked.file)?, refusal)),
+    };
+    let Ok(text) = info_text(alloc, asked.json, &file, tables) else {
+        return Err(Trouble::Memory);
+    };
+    match io::writer(rt).write_all(&text) {
+        Ok(()) => Ok(0),
+        Err(error) => Err(Trouble::Write(error)),
+    }
+}

@@ -1,0 +1,109 @@
+//! Why no answer could be given, and how that is told.
+use gsym::Refusal;
+use std::alloc::{AllocError, Global};
+use std::io::{self, Write};
+
+#[derive(Drop)]
+pub enum Trouble {
+    /// The words of the command line ask for nothing that there is.
+    Usage,
+    /// What is wrong, and the word.
+    Misused(&'static str, Vec<u8>),
+    Memory,
+    /// Standard input can't be read.
+    Read(io::Error),
+    /// Standard output can't be written.
+    Write(io::Error),
+    /// A file that can't be read.
+    Unread(Vec<u8>, io::Error),
+    /// A file, and what is wrong with it.
+    File(Vec<u8>, &'static str),
+    /// A file that is refused.
+    Refused(Vec<u8>, Refusal),
+}
+
+impl Trouble {
+    /// Whether it is to be told: a pipe that was closed is none, since whoever read it had enough.
+    pub fn is_news(&self) -> bool {
+        match self {
+            Trouble::Write(error) => error.kind() != io::ErrorKind::BrokenPipe,
+            _ => true,
+        }
+    }
+
+    /// Whether the usage is to be shown.
+    pub fn is_usage(&self) -> bool {
+        matches!(self, Trouble::Usage | Trouble::Misused(..))
+    }
+}
+
+impl From<AllocError> for Trouble {
+    ghost from_gives = { λ _ _. Unit {0} };
+
+    fn from(_error: AllocError) -> Trouble {
+        Trouble::Memory
+    }
+}
+
+fn push_str(line: &mut Vec<u8>, text: &str) -> io::Result<()> {
+    line.extend_from_slice(text.as_bytes())?;
+    Ok(())
+}
+
+/// Bytes as they may be shown.
+pub fn push_shown(alloc: Global, line: &mut Vec<u8>, bytes: &[u8]) -> io::Result<()> {
+    let len = gsym_printed::shown(bytes, &mut []);
+    let mut room = vec![in alloc; 0u8; len]?;
+    let _ = gsym_printed::shown(bytes, &mut room);
+    line.extend_from_slice(&room)?;
+    Ok(())
+}
+
+fn push_file(alloc: Global, line: &mut Vec<u8>, name: &[u8], why: &str) -> io::Result<()> {
+    push_shown(alloc, line, name)?;
+    push_str(line, ": ")?;
+    push_str(line, why)
+}
+
+fn push_trouble(alloc: Global, line: &mut Vec<u8>, trouble: &Trouble) -> io::Result<()> {
+    match trouble {
+        Trouble::Usage => push_str(line, "how it is used:"),
+        Trouble::Misused(why, word) => {
+            push_str(line, why)?;
+            push_str(line, " '")?;
+            push_shown(alloc, line, word)?;
+            push_str(line, "'")
+        }
+        Trouble::Memory => push_str(line, "out of memory"),
+        Trouble::Read(error) => write!(line, "standard input: {error}"),
+        Trouble::Write(error) => write!(line, "standard output: {error}"),
+        Trouble::Unread(name, error) => {
+            push_file(alloc, line, name, "")?;
+            write!(line, "{error}")
+        }
+        Trouble::File(name, why) => push_file(alloc, line, name, why),
+        Trouble::Refused(name, refusal) => {
+            push_file(alloc, line, name, "refused: ")?;
+            write!(line, "{}, ", refusal.number())?;
+            push_str(line, gsym_printed::refusal_name(*refusal))
+        }
+    }
+}
+
+/// A line that tells it.
+pub fn told(alloc: Global, trouble: &Trouble) -> io::Result<Vec<u8>> {
+    let mut line = Vec::new(alloc);
+    push_str(&mut line, "gsym: ")?;
+    push_trouble(alloc, &mut line, trouble)?;
+    push_str(&mut line, "\n")?;
+    Ok(line)
+}
+
+/// A line that tells of a word that is no address.
+pub fn told_word(alloc: Global, word: &[u8]) -> io::Result<Vec<u8>> {
+    let mut line = Vec::new(alloc);
+    push_str(&mut line, "gsym: '")?;
+    push_shown(alloc, &mut line, word)?;
+    push_str(&mut line, "' is no address\n")?;
+    Ok(line)
+}
