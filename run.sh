@@ -8,8 +8,8 @@ sh tools/kit.sh || exit 2
 mkdir -p target
 log=target/run.log
 : >"$log"
-echo "Proves and builds the library, gsym-addr2line and gsym, and resolves a sample crash. The first run takes at most"
-echo "half an hour of processor time, less than ten minutes on four processors; later ones seconds. Log: $log"
+echo "Proves and builds the library, gsym-addr2line and gsym, and resolves a sample crash. The first run proves"
+echo "every function below them, which takes minutes; later ones take seconds. Log: $log"
 make >"$log" 2>&1 &
 building=$!
 trap 'kill $building 2>/dev/null' INT TERM
