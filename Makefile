@@ -6,7 +6,7 @@
 #   make install                    PREFIX=/usr/local DESTDIR= ; BINDIR, INCLUDEDIR, LIBDIR, MANDIR, DOCDIR too
 #   make uninstall                  with the same words
 #   make dist                       target/gsym-VERSION-x86_64-linux.tar.gz and its SHA-256: docs/ARCHIVE.md
-#   make check                      sh test.sh: every proof, every edit, every program
+#   make check                      sh test.sh: every proof, every edit, every program; it and dist need a checkout
 #   make clean, make distclean      what make built; distclean also target/ and what rt keeps in crates/*/out
 # AR, CC, CPPFLAGS, CFLAGS, LDFLAGS, LDLIBS, INSTALL and RT are honoured.
 PREFIX = /usr/local
@@ -71,9 +71,10 @@ target/linked: FORCE
 	@mkdir -p target
 	@echo '$(abspath $(LIBGSYM))' | cmp -s - $@ || echo '$(abspath $(LIBGSYM))' >$@
 
-# what hosts may call and nothing else; -z text: it is fit to be shared, -z defs: nothing is missing
+# what hosts may call and nothing else; -z text: it is fit to be shared, -z defs: nothing is missing, -z now: memcpy and
+# memset are bound when it is loaded, and not at a first call, on the stack of a signal handler
 libgsym.so.0: $(LIBGSYM) $(HEADER) host/gsym.map target/linked
-	$(CC) -shared $(LDFLAGS) -Wl,-soname,$(SONAME) -Wl,--version-script=host/gsym.map -Wl,-z,text,-z,defs -o $@ \
+	$(CC) -shared $(LDFLAGS) -Wl,-soname,$(SONAME) -Wl,--version-script=host/gsym.map -Wl,-z,text,-z,defs,-z,now -o $@ \
 	    -Wl,--whole-archive $(LIBGSYM) -Wl,--no-whole-archive
 
 TOOL = host/gsym-addr2line.c host/file.c
@@ -117,10 +118,16 @@ FILES = Makefile LICENSE NOTICE gsym.pc.in $(HEADER) $(PAGES) $(TOOL) host/file.
     host/sample/connector.gsym man/gsym-addr2line.1 man/gsym.3 examples/handler.c
 NAME = gsym-$(VERSION)-x86_64-linux
 
+# what a checkout of the repository has, and the archive has not
+in_checkout = @[ -f $(1) ] || \
+    { echo "make $@: this needs a checkout of the repository; there is no $(1) here (docs/ARCHIVE.md)"; exit 2; }
+
 dist: $(LIBGSYM) $(FILES)
+	$(call in_checkout,tools/dist.sh)
 	sh tools/dist.sh '$(NAME)' '$(LIBGSYM)' $(FILES)
 
 check:
+	$(call in_checkout,test.sh)
 	sh test.sh
 
 clean:

@@ -8,8 +8,8 @@ sh tools/kit.sh || exit 2
 mkdir -p target
 log=target/run.log
 : >"$log"
-echo "Proves and builds the library, gsym-addr2line and gsym, and resolves a sample crash. The first run proves"
-echo "every function below them, which takes minutes; later ones take seconds. Log: $log"
+echo "Proves and builds the library, gsym-addr2line and gsym, and resolves a sample crash. The first run proves every"
+echo "function below them, some 25 minutes of processor time; later ones take seconds. Log: $log"
 make >"$log" 2>&1 &
 building=$!
 trap 'kill $building 2>/dev/null' INT TERM

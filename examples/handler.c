@@ -1,16 +1,19 @@
 /*
  * handler.c - a crash handler that says in which function the program died, by its symbol file.
  *
- *   cc -O2 -g -o handler handler.c -lgsym
+ *   cc -O2 -g -Wl,-z,now -o handler handler.c -lgsym
  *   llvm-gsymutil --convert handler -o handler.gsym
  *   ./handler handler.gsym
  *
- * All that may fail or take a lock is done before: the file is mapped, the handler's stack is there. In the handler
- * nothing is called but what POSIX calls async-signal-safe, and gsym_lookup. With an ADDRESS, counted as the file
- * counts them, that one is told instead of the one of the crash: `./handler FILE ADDRESS`.
+ * says that it died in spoil, inlined into lose_order. All that may fail or take a lock is done before: the file is
+ * mapped, the handler's stack is there, and every call is bound (-z now: else the handler's first calls run the dynamic
+ * linker, on the handler's stack). In the handler nothing is called but what POSIX calls async-signal-safe, and
+ * gsym_lookup. With an ADDRESS, counted as the file counts them, that one is told instead of the one of the crash:
+ * `./handler FILE ADDRESS`.
  */
-#define _GNU_SOURCE /* REG_RIP, mmap */
+#define _GNU_SOURCE /* REG_RIP, mmap, dl_iterate_phdr */
 #include <fcntl.h>
+#include <link.h>
 #include <signal.h>
 #include <stdio.h>
 #include <stdlib.h>
@@ -26,12 +29,11 @@
 /* what the handler's own frames take: its list of 64 records is 3,584 bytes of that */
 enum { OWN_FRAMES = 8192 };
 
-/* where this program starts in memory: what has to be subtracted from an address of the running program */
-extern const char __ehdr_start[];
-
 static const uint8_t *file;
 static size_t file_len;
 static uint64_t told;
+/* what has to be subtracted from an address of this running program: 0 where it isn't position independent */
+static uint64_t base;
 
 static void say(const char *bytes, size_t len)
 {
@@ -65,17 +67,30 @@ static void say_text(gsym_text text)
     say(part.at, part.len);
 }
 
+/* As the tool prints a line of a frame: no slash behind an empty directory, and a line 0 is none. The file is this
+ * program's own; of one that others made gsym_shown_text shows each text without what would steer a terminal. */
 static void say_frame(gsym_text name, gsym_text dir, gsym_text source, uint32_t line)
 {
     say_words("  ");
     say_text(name);
     say_words(" at ");
     say_text(dir);
-    say_words("/");
+    say_words(dir.len != 0 ? "/" : "");
     say_text(source);
     say_words(":");
-    say_number(line);
+    if (line != 0)
+        say_number(line);
+    else
+        say_words("?");
     say_words("\n");
+}
+
+/* A symbol whose position is not known. */
+static void say_name(gsym_text name)
+{
+    say_words("  ");
+    say_text(name);
+    say_words(" at ??:?\n");
 }
 
 static void on_crash(int signal, siginfo_t *info, void *context)
@@ -84,7 +99,7 @@ static void on_crash(int signal, siginfo_t *info, void *context)
     gsym_frame frames[GSYM_MAX_FRAMES];
     uint64_t pc = (uint64_t)((ucontext_t *)context)->uc_mcontext.gregs[REG_RIP];
     /* of a return address, one from the stack, one would have to be subtracted: the call stands before it */
-    uint64_t addr = told != 0 ? told : pc - (uint64_t)(uintptr_t)__ehdr_start;
+    uint64_t addr = told != 0 ? told : pc - base;
     gsym_answer a = gsym_lookup(file, file_len, addr, GSYM_CODE_INFO | GSYM_INLINING, frames, GSYM_MAX_FRAMES);
     if (a.number != GSYM_FOUND) {
         const char *why = gsym_refusal_name(a.number);
@@ -95,9 +110,12 @@ static void on_crash(int signal, siginfo_t *info, void *context)
         say_words("died in\n");
         for (uint64_t k = a.count; k > 0; k--)
             say_frame(frames[k - 1].name, frames[k - 1].dir, frames[k - 1].file, frames[k - 1].line);
-        say_frame(a.name, a.dir, a.file, a.line);
+        if (a.has_code)
+            say_frame(a.name, a.dir, a.file, a.line);
+        else
+            say_name(a.name);
     }
-    /* SA_RESETHAND: the signal now does what it does without a handler */
+    /* SA_RESETHAND: the signal now does what it does without a handler, also where another process had sent it */
     raise(signal);
 }
 
@@ -110,6 +128,15 @@ static size_t signal_frame(void)
     unsigned long bytes = getauxval(51); /* AT_MINSIGSTKSZ */
     return bytes != 0 ? bytes : MINSIGSTKSZ;
 #endif
+}
+
+/* The first that is told of is the program itself. */
+static int set_base(struct dl_phdr_info *program, size_t size, void *unused)
+{
+    (void)size;
+    (void)unused;
+    base = program->dlpi_addr;
+    return 1;
 }
 
 /* The handler's stack: just what include/gsym.h asks for, on whole pages, below a page that can't be touched. */
@@ -133,6 +160,21 @@ static void set_stack(void)
     }
 }
 
+/* ---- what goes wrong */
+
+static int *volatile last_order;
+
+__attribute__((always_inline)) static inline void spoil(int order)
+{
+    *(volatile int *)last_order = order;
+}
+
+/* there is no order, and so it writes where nothing is */
+__attribute__((noinline)) static void lose_order(int order)
+{
+    spoil(order);
+}
+
 int main(int argc, char **argv)
 {
     struct stat st;
@@ -149,7 +191,8 @@ int main(int argc, char **argv)
     file = at;
     file_len = (size_t)st.st_size;
     told = argc > 2 ? strtoull(argv[2], 0, 16) : 0;
+    dl_iterate_phdr(set_base, 0);
     set_stack();
-    raise(SIGSEGV);
+    lose_order(argc);
     return 0;
 }

@@ -87,6 +87,10 @@ static bool resolve_input(const struct asked *asked)
 
 /* ---- options ---- */
 
+#define LETTERS "e:afipsChHvV"
+/* the options that have no letter */
+enum { FIRST_LONG = 256, REFUSALS = FIRST_LONG, JSON, BASE, RETURN_ADDRESSES };
+
 /* a list of arguments that grows */
 struct list {
     char **at;
@@ -113,7 +117,7 @@ static void append_words(struct list *list, char *text, size_t len)
     bool open = false;
     for (size_t i = 0; i <= len; i++) {
         char c = i < len ? text[i] : 0;
-        bool ends = i == len || (quote == 0 && strchr(" \t\r\n\v\f", c) != NULL);
+        bool ends = i == len || (quote == 0 && (c == ' ' || (c >= '\t' && c <= '\r')));
         if (ends && open) {
             *to++ = 0;
             append(list, start);
@@ -144,6 +148,9 @@ static struct list expand(int argc, char **argv)
         }
         struct lent text = read_all(fd, argv[i], 1 << 24, "more than 16 MiB of arguments", NULL);
         close(fd);
+        /* no word can have one */
+        if (text.len != 0 && memchr(text.at, 0, text.len) != NULL)
+            trouble(argv[i], "a zero byte among the arguments");
         /* a byte more than was read, for the end of the last word */
         char *words = malloc(text.len + 1);
         if (words == NULL)
@@ -192,12 +199,23 @@ static _Noreturn void misused(const char *why, const char *word)
     exit(TROUBLE);
 }
 
-/* The option that getopt stopped at. */
+/* The same of a word that is missing. */
+static _Noreturn void missing(const char *why)
+{
+    fprintf(stderr, "gsym-addr2line: %s\n", why);
+    usage(stderr);
+    exit(TROUBLE);
+}
+
+/* The option that getopt stopped at. In `optopt` is its letter, or of a long option what it is short for, or 0. */
 static _Noreturn void unknown_option(int c, char **argv)
 {
     const char small[3] = {'-', (char)optopt, 0};
-    bool is_small = optopt > 0 && optopt < 128;
-    misused(c == ':' ? "an option without its argument:" : "no such option:", is_small ? small : argv[optind - 1]);
+    if (c == ':')
+        misused("an option without its argument:", optopt < FIRST_LONG ? small : argv[optind - 1]);
+    /* a letter that is an option stands for a long one, with a value that it doesn't take */
+    bool is_letter = optopt == ':' || (optopt != 0 && optopt < FIRST_LONG && strchr(LETTERS, optopt) == NULL);
+    misused("no such option:", is_letter ? small : argv[optind - 1]);
 }
 
 static uint64_t base_of(const char *word)
@@ -207,8 +225,6 @@ static uint64_t base_of(const char *word)
         misused("--base wants an address, and this is none:", word);
     return base.value;
 }
-
-enum { REFUSALS = 256, JSON, BASE, RETURN_ADDRESSES };
 
 /* The name of the file that is asked, and the rest in `asked`. */
 static const char *parse_options(int argc, char **argv, struct asked *asked)
@@ -242,7 +258,7 @@ static const char *parse_options(int argc, char **argv, struct asked *asked)
     };
     const char *name = NULL;
     opterr = 0;
-    for (int c; (c = getopt_long(argc, argv, ":e:afipsChHvV", options, NULL)) != -1;) {
+    for (int c; (c = getopt_long(argc, argv, ":" LETTERS, options, NULL)) != -1;) {
         for (size_t k = 0; k < sizeof views / sizeof views[0]; k++)
             asked->view |= c == views[k].option ? views[k].view : 0;
         if (c == 'e') {
@@ -259,10 +275,8 @@ static const char *parse_options(int argc, char **argv, struct asked *asked)
             unknown_option(c, argv);
         }
     }
-    if (name == NULL) {
-        usage(stderr);
-        exit(TROUBLE);
-    }
+    if (name == NULL)
+        missing("-e FILE is missing");
     return name;
 }
 

@@ -1,7 +1,8 @@
 /*
  * gsym.h - what a GSYM symbol file says of an address: the function, its source position, the inlined calls; as
  * records, or as the text that a tool prints.
- * Version 0.2.0 of 2026-11-26, for x86-64 Linux. gsym(3) has an example; examples/handler.c is one for a crash handler.
+ * Version 0.2.0 of 2026-11-26, for x86-64 Linux, C11 or C++11. gsym(3) has an example; examples/handler.c is one for a
+ * crash handler.
  *
  * Link with libgsym.a (`make`) or with the shared library (`pkg-config gsym`). The library has no state, takes no heap,
  * opens no file and never writes to the file's bytes. Every call ends, on any bytes, any address and any options. The
@@ -23,7 +24,9 @@
  * file too, each with a list of its own.
  *
  * Signal handlers: the calls are async-signal-safe. They take no lock, keep no state and touch no errno; all that the
- * library takes from elsewhere is memcpy and memset, which POSIX counts among the safe functions.
+ * library takes from elsewhere is memcpy and memset, which POSIX counts among the safe functions. Link the program with
+ * -Wl,-z,now, as libgsym.so is linked: else the first call of a function, also of these two, may run the dynamic
+ * linker, which takes stack of its own and may take a lock.
  *
  * Stack: a call needs GSYM_STACK bytes. A handler's own stack (sigaltstack) needs
  *     GSYM_STACK + sysconf(_SC_MINSIGSTKSZ) + what the handler's own frames and callees take
@@ -98,7 +101,7 @@ enum {
 };
 
 /* ---- what is asked for: bits of `options`. The others are reserved: they refuse nothing, and promise nothing ---- */
-#define GSYM_CODE_INFO 1u /* directory, file and line of the symbol */
+#define GSYM_CODE_INFO 1u /* directory, file and line: of the address; with GSYM_INLINING too, of the symbol itself */
 #define GSYM_INLINING 2u  /* the calls inlined at the address; only together with GSYM_CODE_INFO */
 
 /* A string, as its place from the file's start and its length, in bytes; there is no zero byte in it. */
@@ -158,8 +161,9 @@ GSYM_ASSERT(sizeof(gsym_answer) == 80 && offsetof(gsym_answer, addr) == 8 && off
  *   frames, frames_len    a lent list of records; room is the smaller of 64 and frames_len, and counts all frames of
  *                         the symbol's inline block, one more than there will be records
  * With inlining, frames[0] is the outermost call inlined into the symbol, frames[count - 1] the innermost; the symbol's
- * own position is where it calls frames[0]. Written are exactly the first `count` records. A refusal writes none, nor
- * does a lookup without both options, and what is past `count` stays.
+ * own position is where it calls frames[0]. Without GSYM_INLINING directory, file and line are those of the address
+ * itself, which may lie in an inlined callee, and `name` is the symbol's all the same. Written are exactly the first
+ * `count` records. A refusal writes none, nor does a lookup without both options, and what is past `count` stays.
  * Refusals: 1 to 14, the first met in the file's order. Without GSYM_CODE_INFO only 1 to 6 are, without GSYM_INLINING
  * only 1 to 9.
  */
@@ -229,7 +233,8 @@ GSYM_ASSERT(sizeof(gsym_number) == 16 && offsetof(gsym_number, is_number) == 8, 
 gsym_printed gsym_answer_text(const uint8_t *file, size_t file_len, uint32_t view, uint64_t base, const uint8_t *word,
                               size_t word_len, uint8_t *room, size_t room_len);
 
-/* Any bytes (the name of a file, a word) as they may be shown on a terminal, and how many bytes that are. */
+/* Any bytes (the name of a file, a word) as they may be shown on a terminal, and how many bytes that are: no newline is
+ * among them. */
 uint64_t gsym_shown_text(const uint8_t *bytes, size_t len, uint8_t *room, size_t room_len);
 
 /* A refusal in words, as gsym_refusal_name has it, and how many bytes these are: 0 where no refusal has the number. */

@@ -2,8 +2,9 @@
 # The archive of `make dist`: packed twice, from two copies of this tree in other folders and at another time, it has
 # the same bytes; SHA256SUMS in it holds; and from it alone, in a folder of its own with an empty environment and a
 # PATH that has a C compiler, make and the tools that docs/ARCHIVE.md names, and no toolchain, all is built and
-# installed: the tool answers, a program links with either library, and what is installed is what is wanted. Exit
-# status 1 where something fails, 3 where it can't be tried. LIBGSYM is honoured.
+# installed: the tool answers, a program links with either library, and what is installed is what is wanted; what needs
+# a checkout says so; each link of its pages leads to a page of it or to one that docs/ARCHIVE.md says is not in it.
+# Exit status 1 where something fails, 3 where it can't be tried. LIBGSYM is honoured.
 set -u
 cd "$(dirname "$0")/.." || exit 2
 cc=${CC:-cc}
@@ -57,6 +58,20 @@ bare make || fail "make fails with nothing but the archive"
 bare ./gsym-addr2line -e host/sample/connector.gsym -fp 1065 || fail "the tool fails"
 [ "$(cat "$tmp/log")" = "read_stock at /src/connector/sync.c:21" ] || fail "the tool answers otherwise"
 bare make install PREFIX=/usr DESTDIR="$tmp/root" || fail "make install fails with nothing but the archive"
+for goal in dist check; do
+    bare make $goal && fail "make $goal needs no checkout"
+    grep -q "make $goal: this needs a checkout of the repository" "$tmp/log" ||
+        fail "make $goal doesn't say what it needs"
+done
+for page in "$tmp"/build/docs/*.md; do
+    for link in $(grep -o '](\([^)#]*\)[#)]' "$page" | sed 's/^](//; s/[#)]$//' | sort -u); do
+        [ -f "$tmp/build/docs/$link" ] && continue
+        # a page by its name, and a page of a folder by the folder
+        case $link in ../*) what=$(echo "$link" | cut -d/ -f2) ;; *) what=$link ;; esac
+        sed -n '/^In the repository, and not in the archive/,/^$/p' docs/ARCHIVE.md | tr -d '\`,' | tr ' ' '\n' |
+            grep -qx "$what" || fail "$(basename "$page") links to $link, which docs/ARCHIVE.md doesn't name"
+    done
+done
 # a library that stands elsewhere, and then what was linked with the other is made anew
 mkdir "$tmp/elsewhere"
 mv "$tmp/build/libgsym.a" "$tmp/elsewhere/"

@@ -1,7 +1,8 @@
 #!/bin/sh
 # The archive in a root that has only /usr of this machine, and of that no /usr/local: no toolchain, no home, no
 # environment. It is unpacked, checked, built and installed there. For root, since it mounts, in a name space of its own:
-# `sh tests/root.sh`. Exit status 1 where something fails, 3 where this machine lets no one make such a root.
+# `sh tests/root.sh`. Exit status 1 where something fails, 3 where this machine lets no one make such a root. LIBGSYM
+# is honoured.
 set -u
 cd "$(dirname "$0")/.." || exit 2
 [ "$(id -u)" = 0 ] && unshare --mount --propagation private true 2>/dev/null ||
@@ -9,7 +10,7 @@ cd "$(dirname "$0")/.." || exit 2
 root=$(mktemp -d) || exit 2
 # never across a mount
 trap 'rm -rf --one-file-system "$root"' EXIT
-make dist >"$root/log" 2>&1 || { tail -n 5 "$root/log"; echo "tests/root: make dist failed"; exit 1; }
+make LIBGSYM="${LIBGSYM:-libgsym.a}" dist >"$root/log" 2>&1 || { tail -n 5 "$root/log"; echo "tests/root: make dist failed"; exit 1; }
 mkdir -p "$root/usr" "$root/tmp" "$root/build" "$root/dev" "$root/etc"
 for folder in bin sbin lib lib64; do
     [ ! -L "/$folder" ] || ln -s "$(readlink "/$folder")" "$root/$folder"

@@ -1,10 +1,10 @@
 #!/bin/sh
 # One wording of refusals, one version and one layout. The words of crates/gsym_types (`#[error("..")]`) stand for the
-# same number in include/gsym.h (its enum and gsym_refusal_name), in the Rust binding (its text and its page), in the
-# tools' man pages and in docs/RULES.md ("Refusal numbers"), with the names of the enum where names are given; README.md
-# cites RULES. The version of include/gsym.h is that of gsym_c, of gsym_tool, of the binding and of the man pages, its
-# date that of these, and its layout that of the exports of gsym_c and gsym_text_c, of the shared library and of the
-# binding. Prints what is otherwise; 1 if anything is.
+# same number in include/gsym.h (its enum and gsym_refusal_name), in the Rust binding (its text and its page), in
+# gsym-addr2line(1) and in docs/RULES.md ("Refusal numbers"), with the names of the enum where they are given; README.md
+# cites RULES, and gsym(1) the other page. The version of include/gsym.h is that of gsym_c, of gsym_tool, of the binding
+# and of the man pages, its date that of these, and its layout that of the exports of gsym_c and gsym_text_c, of the
+# shared library and of the binding. Prints what is otherwise; 1 if anything is.
 set -u
 cd "$(dirname "$0")/.." || exit 2
 tmp=$(mktemp -d) || exit 2
@@ -65,11 +65,15 @@ awk '
 same "the text of bindings/rust"
 
 # pages: rows of tables that begin with a number, in the section of the refusals
-for page in man/gsym-addr2line.1 man/gsym.1; do
-    sed -n '/^\.SH REFUSALS/,/^\.fi/s/^ *\([0-9][0-9]*\)  \(.*\)$/\1\t\2/p' "$page" |
-        awk -F '\t' 'NR == FNR { name[$1] = $2; next } { print $1 "\t" name[$1] "\t" $2 }' "$tmp/words" - >"$tmp/found"
-    same "$page"
-done
+page_rows() { # PAGE: number and words
+    sed -n '/^\.SH REFUSALS/,/^\.SH EXIT/s/^ *\([0-9][0-9]*\)  \(.*\)$/\1\t\2/p' "$1"
+}
+page_rows man/gsym-addr2line.1 |
+    awk -F '\t' 'NR == FNR { name[$1] = $2; next } { print $1 "\t" name[$1] "\t" $2 }' "$tmp/words" - >"$tmp/found"
+same man/gsym-addr2line.1
+[ -z "$(page_rows man/gsym.1)" ] || { echo "wording: gsym(1) has refusals, which stand in gsym-addr2line(1)"; bad=1; }
+sed -n '/^\.SH REFUSALS/,/^\.SH EXIT/p' man/gsym.1 | grep -q '^\.BR gsym\\-addr2line (1)' ||
+    { echo "wording: gsym(1) doesn't cite the refusals"; bad=1; }
 rows() { # FILE: number, and the other cells
     awk '/^## / { open = $0 == "## Refusal numbers" } open && /^\| *[0-9]+ *\|/' "$1" | sed 's/^| *//; s/ *| */\t/g'
 }
@@ -119,5 +123,5 @@ done <"$tmp/mapped"
 [ -s "$tmp/mapped" ] || { echo "wording: include/gsym.h maps no call to its layout"; bad=1; }
 grep -q "^LIBGSYM_$layout {" host/gsym.map || { echo "wording: host/gsym.map is of another layout"; bad=1; }
 
-[ "$bad" = 0 ] && echo "wording: $count refusals have one wording in seven places; version $version stands in nine, layout $layout in four"
+[ "$bad" = 0 ] && echo "wording: $count refusals have one wording in six places; version $version stands in nine, layout $layout in four"
 exit "$bad"

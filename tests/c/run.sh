@@ -53,16 +53,20 @@ fi
 stack=$(tail -n 1 "$tmp/log")
 
 # ---- a crash handler on a stack of just what the header asks for
+died=
 # shellcheck disable=SC2086
-"$cc" -std=c11 $flags -o "$tmp/handler" examples/handler.c "$library" >"$tmp/log" 2>&1 ||
+"$cc" -std=c11 $flags -Wl,-z,now -o "$tmp/handler" examples/handler.c "$library" >"$tmp/log" 2>&1 ||
     fail "examples/handler.c doesn't compile"
-handled() { # FILE ADDRESS: what the handler says of it must be standard input
-    cat >"$tmp/want"
-    { "$tmp/handler" "$1" "$2"; echo $? >"$tmp/status"; } 2>"$tmp/said"
+crash() { # ARGUMENTS..: what the handler says, in $tmp/log
+    { "$tmp/handler" "$@"; echo $? >"$tmp/status"; } 2>"$tmp/said"
     # the shell says too that it was killed
     sed '/^Segmentation fault/d' "$tmp/said" >"$tmp/log"
+    [ "$(cat "$tmp/status")" = 139 ] || fail "examples/handler.c did not die of the signal"
+}
+handled() { # FILE ADDRESS: what the handler says of it must be standard input
+    cat >"$tmp/want"
+    crash "$@"
     cmp -s "$tmp/want" "$tmp/log" || fail "examples/handler.c said otherwise of $2"
-    [ "$(cat "$tmp/status")" -gt 128 ] || fail "examples/handler.c did not die of the signal"
 }
 handled host/sample/connector.gsym 1155 <<'END'
 died in
@@ -85,6 +89,29 @@ handled "$tmp/deep" 1005 <"$tmp/frames"
 handled "$tmp/deeper" 1005 <<'END'
 died, and the symbol file has no answer: inlined calls on more than 64 levels
 END
+# a symbol whose position is not known
+handled "$tmp/deep" 1100 <<'END'
+died in
+  plain at ??:?
+END
+# where it died itself, at no address of ours: by a file that counts from that function on, whose directory is empty
+if command -v nm >/dev/null 2>&1; then
+    for flag in "" -no-pie; do
+        # shellcheck disable=SC2086
+        "$cc" -std=c11 $flags $flag -Wl,-z,now -o "$tmp/handler" examples/handler.c "$library" >"$tmp/log" 2>&1 ||
+            { died="$died, not linked with $flag"; continue; }
+        "$tmp/stack" 1 "$tmp/own" "$(nm "$tmp/handler" | sed -n 's/^\([0-9a-f]*\) [Tt] lose_order$/\1/p')" ||
+            fail "stack.c writes no file"
+        crash "$tmp/own"
+        # a compiler may put the instruction within the block's eight bytes, which have another name, or behind them
+        sed -e 's/^  mid at/  main at/' -e 's/^  main at a\.c:[1-9][0-9]*$/  main at a.c:LINE/' "$tmp/log" >"$tmp/own"
+        printf 'died in\n  main at a.c:LINE\n' | cmp -s - "$tmp/own" ||
+            fail "examples/handler.c did not say where it died ($flag)"
+        died="$died, a crash of its own${flag:+ with $flag}"
+    done
+else
+    died=", no crash of its own: there is no nm"
+fi
 
 # ---- names: a call with records carries the layout, and nothing else is there for hosts
 layout=$(sed -n 's/^#define GSYM_LAYOUT \([0-9]*\)$/\1/p' include/gsym.h)
@@ -119,6 +146,8 @@ if command -v readelf >/dev/null 2>&1; then
     soname=$(readelf -d libgsym.so.0 | sed -n 's/.*(SONAME).*\[\(.*\)\]/\1/p')
     echo "$soname" >"$tmp/log"
     [ "$soname" = "libgsym.so.$major.$layout" ] || fail "libgsym.so.0 has another soname"
+    readelf -d libgsym.so.0 >"$tmp/log"
+    grep -q 'BIND_NOW' "$tmp/log" || fail "libgsym.so.0 is bound at first calls, on the caller's stack"
     cp libgsym.so.0 "$tmp/$soname"
     # shellcheck disable=SC2086
     "$cc" -std=c11 $flags -o "$tmp/face" tests/c/face.c "$tmp/$soname" >"$tmp/log" 2>&1 ||
@@ -126,4 +155,4 @@ if command -v readelf >/dev/null 2>&1; then
     LD_LIBRARY_PATH=$tmp "$tmp/face" >"$tmp/log" 2>&1 || fail "face.c, with the shared library, failed"
     as="$as and with the shared library"
 fi
-echo "tests/c: as $as $said; $stack"
+echo "tests/c: as $as $said; $stack; a crash handler$died"

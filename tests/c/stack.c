@@ -3,7 +3,8 @@
  * painted was used. gsym_answer_text is called for each form of text. The blocks have 64 levels, and 65, which is
  * refused; of these the first so many are open and the others are passed over, for each number. Prints the largest use
  * of each function, and at how many levels; the exit status is 1 where one is not below what include/gsym.h says.
- * `stack LEVELS FILE` writes a symbol file whose block has so many levels, all open, at 0x1005.
+ * `stack LEVELS FILE` writes a symbol file whose block has so many levels, all open, at 0x1005; `stack LEVELS FILE
+ * BASE` one that counts from BASE on (and not 0x1000), whose files have an empty directory.
  */
 #ifndef _DEFAULT_SOURCE
 #define _DEFAULT_SOURCE
@@ -95,18 +96,22 @@ static size_t used(void)
     return bytes;
 }
 
-static int write_file(int levels, const char *name)
+static int write_file(int levels, const char *name, const char *base)
 {
     FILE *out = fopen(name, "wb");
     put_levels(&block, levels, levels, S_MID);
-    put_file(&file, made_lines, sizeof made_lines, block.at, block.len);
+    places p = put_file(&file, made_lines, sizeof made_lines, block.at, block.len);
+    if (base != 0) {
+        put_over(&file, 8, strtoull(base, 0, 16), 8);
+        put_over(&file, p.files + 8, 0, 4);
+    }
     return out == 0 || fwrite(file.at, 1, file.len, out) != file.len || fclose(out) != 0;
 }
 
 int main(int argc, char **argv)
 {
-    if (argc == 3)
-        return write_file(atoi(argv[1]), argv[2]);
+    if (argc >= 3)
+        return write_file(atoi(argv[1]), argv[2], argc > 3 ? argv[3] : 0);
     which = 3;
     size_t most[4] = {0, 0, 0, used()};
     int at[3] = {0, 0, 0};

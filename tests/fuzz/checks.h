@@ -232,4 +232,134 @@ static listed list_all_ways(bytes block, uint64_t symbol, uint64_t addr, size_t 
     return l;
 }
 
+/* ---- texts for a terminal: gsym_answer_text, gsym_shown_text, gsym_next_word */
+
+/* the length of the character of UTF-8 at the front, 0 where there is none */
+static size_t character_at(const uint8_t *at, size_t len)
+{
+    for (size_t n = 1; n <= 4 && n <= len; n++)
+        if (is_utf8(at, n))
+            return n;
+    return 0;
+}
+
+/* no control byte (newlines apart, where they may be), no C1 control and no mark that turns the direction of writing;
+ * of a text that was cut the last three bytes may begin a character */
+static int is_plain(const uint8_t *at, size_t len, int may_break, int is_cut)
+{
+    for (size_t i = 0; i < len;) {
+        size_t n = character_at(at + i, len - i);
+        uint32_t third = n == 3 ? at[i + 2] : 0;
+        if (n == 0 && is_cut && i + 3 >= len)
+            return 1;
+        if (n <= 1 && ((at[i] < 32 && !(may_break && at[i] == 10)) || (at[i] >= 127 && at[i] < 160)))
+            return 0;
+        if (n == 2 && at[i] == 0xc2 && at[i + 1] < 0xa0)
+            return 0;
+        if (n == 3 && at[i] == 0xe2 && ((at[i + 1] == 0x80 && third >= 0xaa && third <= 0xae) ||
+                                        (at[i + 1] == 0x81 && third >= 0xa6 && third <= 0xa9)))
+            return 0;
+        i += n == 0 ? 1 : n;
+    }
+    return 1;
+}
+
+/* a text in lent bytes */
+typedef struct told {
+    uint64_t len;
+    uint32_t number;
+    uint8_t at[LIST_ROOM];
+} told;
+
+static size_t written(const told *t, size_t room) { return t->len < room ? (size_t)t->len : room; }
+
+/* the answer to a word, or where `file` has no place the word as it is shown */
+static void tell(told *t, bytes file, uint32_t view, uint64_t base, bytes word, size_t room, int at_end)
+{
+    uint8_t *list = (uint8_t *)lend_list(room, at_end);
+    asked.call = file.at == 0 ? "gsym_shown_text" : "gsym_answer_text", asked.symbol = 0, asked.addr = base;
+    asked.options = view, asked.len = word.len, asked.room = room, asked.at_end = at_end;
+    if (file.at == 0) {
+        t->len = gsym_shown_text(word.at, word.len, list, room);
+        t->number = 0;
+    } else {
+        gsym_printed p = gsym_answer_text(file.at, file.len, view, base, word.at, word.len, list, room);
+        t->len = p.len, t->number = p.number;
+    }
+    memcpy(t->at, list, written(t, room));
+    HOLDS(rest_kept(list, written(t, room)), "lent bytes past the text are unchanged");
+    HOLDS(is_plain(t->at, written(t, room), file.at != 0, t->len > room), "nothing in a text steers a terminal");
+}
+
+/* less room: as long, the same number, and the same front */
+static void tell_less(const told *all, bytes file, uint32_t view, uint64_t base, bytes word, size_t room, int at_end)
+{
+    static told less;
+    tell(&less, file, view, base, word, room, at_end);
+    HOLDS(less.len == all->len && less.number == all->number, "a text needs as much, however much room there is");
+    HOLDS(memcmp(less.at, all->at, written(&less, room)) == 0, "with less room the front of a text is written");
+}
+
+/* the number of the answer to a word, by a lookup */
+static uint32_t number_by_lookup(bytes file, uint32_t view, uint64_t base, bytes word)
+{
+    static gsym_frame frames[GSYM_MAX_FRAMES];
+    gsym_number n = gsym_address_of(word.at, word.len);
+    uint64_t less = base + (view & GSYM_VIEW_RETURN_ADDRESSES ? 1 : 0);
+    uint32_t frames_asked = GSYM_VIEW_FUNCTIONS | GSYM_VIEW_INLINES | GSYM_VIEW_JSON;
+    if (!n.is_number)
+        return GSYM_NO_ADDRESS;
+    if (n.value < base || n.value < less || less < base)
+        return GSYM_UNKNOWN_ADDRESS;
+    return gsym_lookup(file.at, file.len, n.value - less, view & frames_asked ? ALL_OPTIONS : GSYM_CODE_INFO, frames,
+                       GSYM_MAX_FRAMES)
+        .number;
+}
+
+static void tell_all_ways(bytes file, uint32_t view, uint64_t base, bytes word, size_t room, int at_end,
+                          uint64_t *calls)
+{
+    static told all, other;
+    tell(&all, file, view, base, word, LIST_ROOM, at_end);
+    HOLDS(all.number == number_by_lookup(file, view, base, word), "the number is that of the lookup");
+    HOLDS(all.len > 0 && (all.len > LIST_ROOM || all.at[all.len - 1] == 10), "a text ends in a newline");
+    HOLDS(!(view & GSYM_VIEW_JSON) || (all.at[0] == '{' && (all.len > LIST_ROOM || memchr(all.at, 10, all.len) ==
+                                                                                         all.at + all.len - 1)),
+          "JSON is one object on a line");
+    tell_less(&all, file, view, base, word, room, at_end);
+    tell_less(&all, file, view, base, word, 0, !at_end);
+    tell_less(&all, file, view | 0xffffff00, base, word, LIST_ROOM, at_end);
+    tell(&all, (bytes){0, 0}, 0, 0, word, LIST_ROOM, at_end);
+    tell_less(&all, (bytes){0, 0}, 0, 0, word, room, !at_end);
+    if (all.len <= LIST_ROOM) {
+        tell(&other, (bytes){0, 0}, 0, 0, (bytes){all.at, (size_t)all.len}, LIST_ROOM, at_end);
+        HOLDS(other.len == all.len && memcmp(other.at, all.at, (size_t)all.len) == 0,
+              "what may be shown is shown as it is");
+    }
+    *calls += 8;
+}
+
+static int parts(uint8_t byte) { return byte == 32 || byte == 9 || byte == 13 || byte == 10; }
+
+/* the words of some bytes: between them stands what parts words, in them nothing that does */
+static void check_words(bytes input, uint64_t *calls)
+{
+    size_t most = input.len;
+    asked.call = "gsym_next_word", asked.len = input.len;
+    for (size_t turn = 0; turn <= most; turn++, (*calls)++) {
+        gsym_text word = gsym_next_word(input.at, input.len);
+        HOLDS(word.place <= input.len && word.len <= input.len - word.place, "a word lies within the bytes");
+        for (size_t i = 0; i < (word.len == 0 ? input.len : word.place); i++)
+            HOLDS(parts(input.at[i]), "no byte of a word stands before a word, or where there is none");
+        if (word.len == 0)
+            return;
+        for (size_t i = 0; i < word.len; i++)
+            HOLDS(!parts(input.at[word.place + i]), "no byte that parts words stands in one");
+        size_t end = (size_t)(word.place + word.len);
+        HOLDS(end == input.len || parts(input.at[end]), "a word ends where a byte parts, or with the bytes");
+        input = (bytes){input.at + end, input.len - end};
+    }
+    HOLDS(0, "there are fewer words than bytes");
+}
+
 #endif

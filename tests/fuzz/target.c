@@ -1,7 +1,8 @@
 /*
  * target.c - the library under libFuzzer. An input is a head of 16 bytes, which chooses what is asked, and then the
  * bytes of a file. Each input is asked by gsym_lookup, and its bytes, or those of an inline item in it, as a block by
- * gsym_block_frames; checks.h judges every answer. mutate.h changes inputs by what is known of the format.
+ * gsym_block_frames, and a word is answered as text by gsym_answer_text; checks.h judges every answer. mutate.h changes
+ * inputs by what is known of the format.
  *
  * The head:
  *   0       how the address is chosen: raw, near the base, near an entry, inside a symbol, at a symbol's end, border
@@ -10,7 +11,8 @@
  *   4 to 5  a distance
  *   6       room, modulo 81
  *   7       bit 0: file and list end at a page without access, else they begin at one
- *   8 to 15 a raw address
+ *   8 to 15 a raw address; of the text its view (8, 9), its base (10, where bit 0 of 11 is set), and whether the word
+ *           is the address in digits or the file's last bytes (bit 1 of 11), and how many of these (12)
  */
 #include "checks.h"
 #include "head.h"
@@ -29,6 +31,18 @@ static bytes block_of(const uint8_t *head, bytes file)
                 return (bytes){file.at + i.start, i.next - i.start};
     }
     return (bytes){file.at + HEADER, file.len - HEADER};
+}
+
+/* the word that is answered as text: the address, base and all, in digits, or the last bytes of the file */
+static bytes word_of(const uint8_t *head, bytes file, uint64_t addr, uint64_t base)
+{
+    static char digits[32];
+    if ((head[11] & 2) == 0)
+        return (bytes){(const uint8_t *)digits,
+                       (size_t)snprintf(digits, sizeof digits, head[12] & 1 ? "0x%llX" : "%llx",
+                                        (unsigned long long)(addr + base))};
+    size_t len = head[12] < file.len ? head[12] : file.len;
+    return (bytes){file.at + file.len - len, len};
 }
 
 static uint64_t calls, looks[15], lists[15];
@@ -75,5 +89,12 @@ int LLVMFuzzerTestOneInput(const uint8_t *data, size_t size)
     listed with = list_all_ways(block, symbol, addr, room, at_end, &calls);
     listed near = list_all_ways(block, 0, number_at(data + 4, 2), room, at_end, &calls);
     looks[l.a.number]++, lists[with.a.number]++, lists[near.a.number]++;
+
+    uint64_t base = data[11] & 1 ? data[10] : 0;
+    bytes again = lend_file(input.at, input.len, at_end);
+    bytes word = word_of(data, input, addr, base);
+    uint32_t view = (uint32_t)number_at(data + 8, 2);
+    tell_all_ways(again, view, base, word, number_at(data + 4, 2) % LIST_ROOM, at_end, &calls);
+    check_words((bytes){input.at, input.len < 512 ? input.len : 512}, &calls);
     return 0;
 }

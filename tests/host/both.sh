@@ -22,7 +22,8 @@ both() {
     "$gsym" addr2line "$@" <"$input" >"$tmp/gsym" 2>"$tmp/gsym.told"
     echo "status $?" >>"$tmp/gsym"
     "$tool" "$@" <"$input" >"$tmp/tool" 2>"$tmp/tool.told"
-    echo "status $?" >>"$tmp/tool"
+    status=$?
+    echo "status $status" >>"$tmp/tool"
     # what the system says of an error has its number in one of them, and the usage is the tool's own
     for told in gsym tool; do
         sed -e 's/^gsym[-a-z0-9]*: //' -e 's/ (os error [0-9]*)$//' -e '/^usage: /,$d' "$tmp/$told.told" \
@@ -57,17 +58,31 @@ for file in empty swapped elf version torn none; do
 done
 printf -- "-f -e '%s'\n  \"10\"d0 1\\\\000 \"a b\" \\\\" $sample >"$tmp/arguments"
 both /dev/null "@$tmp/arguments" -p 1065
+# a zero byte, in a word, between two, in quotes and behind a backslash: no word can have one
+for text in '-e a\000b 1000' '1000 \000 1065' '"\000"' '1000 \\\000' '\000'; do
+    # shellcheck disable=SC2059 # the text is a form
+    printf -- "$text" >"$tmp/arguments"
+    both /dev/null -e $sample "@$tmp/arguments" 1065
+    [ "$status" = 2 ] || { echo "tests/host/both: $text: not refused"; failed=1; }
+done
 both /dev/null -e $sample "@$tmp/none" "$(printf '\377')" ""
-for words in "-e" "--base" "--frob" "-x" "--json=1" "1000" "-e $sample --base zz" "-e $sample --base=5000 6000"; do
+for words in "-e" "--exe" "-fie" "--base" "--frob" "-x" "-fx" "-:" "-$(printf '\377')" "--json=1" "--addresses=1" \
+    "--pretty=1" "--help=1" "--version=1" "-f --return-addresses=1 1000" "--=" "1000" "" "-e $sample --base zz" \
+    "-e $sample --base=5000 6000"; do
     # shellcheck disable=SC2086 # several words
     both /dev/null $words
 done
 both "$tmp" -e $sample
-if [ -d "$corpus" ] && command -v xz >/dev/null 2>&1; then
+real="and at the addresses of real files"
+if [ ! -d "$corpus" ]; then
+    real="no real files at $corpus"
+elif ! command -v xz >/dev/null 2>&1; then
+    real="real files were not tried, there is no xz"
+else
     for file in "$corpus"/*.gsym; do
         xz -dc "${file%.gsym}.llvm.tsv.xz" | cut -f1 >"$tmp/real"
         each "$tmp/real" "$file"
     done
 fi
-[ $failed = 0 ] && echo "tests/host/both: $runs runs, the same bytes"
+[ $failed = 0 ] && echo "tests/host/both: $runs runs, the same bytes; $real"
 exit $failed

@@ -1,5 +1,5 @@
 #!/usr/bin/env python3
-"""Compares gsym-addr2line with LLVM's answers on real files: `corpus.py TOOL CORPUS`.
+"""Compares a tool with LLVM's answers on real files: `corpus.py CORPUS WORD..`, the words call the tool.
 
 CORPUS has NAME.gsym and NAME.llvm.tsv.xz, a line an address: address, ok, start, size, name, N and N times name, offset,
 directory, file, line from the innermost frame outwards; or address, err, message. In `deep` a tree may have a node on level
@@ -39,7 +39,7 @@ def compare(tool, folder, name):
     lines = lzma.open(folder / f"{name}.llvm.tsv.xz", "rt", encoding="utf-8").read().splitlines()
     rows = [line.split("\t") for line in lines]
     run = subprocess.run(
-        [tool, "-e", folder / f"{name}.gsym", "--json"],
+        [*tool, "-e", folder / f"{name}.gsym", "--json"],
         input="".join(f"{row[0]}\n" for row in rows),
         capture_output=True,
         encoding="utf-8",
@@ -62,13 +62,15 @@ def compare(tool, folder, name):
 
 
 def main():
-    tool, folder = sys.argv[1], pathlib.Path(sys.argv[2])
+    folder, tool = pathlib.Path(sys.argv[1]), sys.argv[2:]
     names = sorted(p.name[: -len(".llvm.tsv.xz")] for p in folder.glob("*.llvm.tsv.xz"))
     total = deep = differ = 0
     for name in names:
         n, d, x = compare(tool, folder, name)
         total, deep, differ = total + n, deep + d, differ + x
-    print(f"gsym-addr2line: {total} addresses of {len(names)} files as LLVM has them, {deep} refused with 13, {differ} differ")
+    called = " ".join(tool)
+    answers = f"{total} addresses of {len(names)} files as LLVM has them, {deep} refused with 13, {differ} differ"
+    print(f"tests/host: {called}: {answers}")
     sys.exit(1 if differ or not total else 0)
 
 

@@ -1,11 +1,12 @@
 #!/usr/bin/env python3
-"""Whether gsym-addr2line prints a byte or a character that steers a terminal: `steering.py TOOL SAMPLE`.
+"""Whether a tool prints a byte or a character that steers a terminal: `steering.py SAMPLE WORD..`, the words call it.
 
 Each byte, each C1 control, each mark that turns the direction of writing, their neighbours, and sequences that are no
 character stand as directory, file, function, inlined function, word and name of a file that isn't there; functions only
 where they are UTF-8. The whole output has to be what docs/RULES.md, "What the tools print", says, written down here
 once more, and what is printed is judged by itself too: no byte below 32 but newlines, no 127, no C1 control in either
-form, no mark, and as many lines as there are without them.
+form, no mark, and as many lines as there are without them. What the system says of an error has its number behind it in
+`gsym`, which is written in Rattle, and a file name that is not UTF-8 can't be opened by it, since its paths are text.
 """
 import json
 import os
@@ -53,12 +54,13 @@ def quoted(text):
 class Judge:
     def __init__(self, tool):
         self.tool = tool
+        self.name = os.path.basename(tool[0]).encode()
         self.runs = 0
         self.wrong = 0
 
     def run(self, arguments, words=b""):
         self.runs += 1
-        return subprocess.run([self.tool, *arguments], input=words, capture_output=True, check=False)
+        return subprocess.run([*self.tool, *arguments], input=words, capture_output=True, check=False)
 
     def judge(self, what, want, got, lines):
         steering = [code for code, whole, _ in characters(got) if is_steering(code) and whole != b"\n"]
@@ -124,7 +126,7 @@ def words(judge, sample):
     text = b"\n".join(b"z" + case + b"z" for case in [b"\0", *CASES])
     parted = [word for word in re.split(rb"[ \t\r\n]+", text) if word]
     said = [b"'" + shown(word) + b"' is no address\n" for word in parted]
-    complaints = b"".join(b"gsym-addr2line: " + line for line in said)
+    complaints = b"".join(judge.name + b": " + line for line in said)
     refusals = b"".join(b"?? " + line for line in said)
     objects = b"".join(b'{"address":null,"word":' + quoted(word) + b',"error":"no address"}\n' for word in parted)
     for view, want in (("--refusals", refusals), ("--json", objects)):
@@ -137,13 +139,17 @@ def names(judge, folder):
     """The cases in the name of a file that isn't there."""
     for case in CASES:
         name = os.fsencode(folder) + b"/none/" + case
-        want = b"gsym-addr2line: " + shown(name) + b": No such file or directory\n"
+        why = b"No such file or directory"
+        if judge.name == b"gsym":
+            is_text = all(is_character for _, _, is_character in characters(case))
+            why = why + b" (os error 2)" if is_text else b"a file name that is not UTF-8 can't be opened"
+        want = judge.name + b": " + shown(name) + b": " + why + b"\n"
         judge.judge(f"{case!r} as the name of a file", want, judge.run(["-e", name, "1000"]).stderr, 1)
 
 
 def main():
-    judge = Judge(sys.argv[1])
-    sample = pathlib.Path(sys.argv[2])
+    sample = pathlib.Path(sys.argv[1])
+    judge = Judge(sys.argv[2:])
     with tempfile.TemporaryDirectory() as folder:
         for case in CASES:
             files(judge, sample.read_bytes(), case, pathlib.Path(folder) / "steering.gsym")

@@ -33,7 +33,15 @@ pub enum Refusal {
     /// More frames than there is room for.
     TooManyFrames,
     /// One that this crate has no name for, by its number: from a library that is newer than the crate.
-    #[non_exhaustive]
+    ///
+    /// ```
+    /// use gsym::{lookup, Options, Refusal};
+    ///
+    /// match lookup(&[], 0, Options::NAME, &mut []) {
+    ///     Err(Refusal::Other(number)) => println!("a later library refuses, with {number}"),
+    ///     told => assert_eq!(told, Err(Refusal::TooFewBytes)),
+    /// }
+    /// ```
     Other(u32),
 }
 

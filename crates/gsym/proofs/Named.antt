@@ -1,6 +1,7 @@
 -- The name of an answer and those of its records are UTF-8 in the file: each is a name of the string table.
 -- Assumes nothing.
-use Rattle.std.proofs.Common.{◌≡◌, Some, None, Ok, Option, ℕ, Bool, true, false, List, [], ◌∷◌, subst, arith, if◌then◌else◌}
+use Rattle.std.proofs.Common.{◌≡◌, Some, None, Ok, Option, ℕ, Bool, true, false, List, [], ◌∷◌, subst, arith}
+use Rattle.std.proofs.Common.{if◌then◌else◌}
 use Rattle.std.specs.List.{All}
 use Rattle.std.proofs.lemmas.List.Elements.{All-nil, All-cons, All-head, All-tail}
 use Rattle.gsym_reads.specs.Steps.{given}
@@ -24,7 +25,8 @@ use Rattle.gsym_parser.specs.Texts.{name_at}
 use Rattle.gsym_parser.specs.Items.{items_of}
 use Rattle.gsym_parser.proofs.Opened.{opened_file}
 use Rattle.gsym_resolver.specs.Known.{question, nothing, read_items}
-use Rattle.gsym_resolver.specs.Lookup.{Landing, landing_at, position_at, call_at, calls_at, moved_up, LookedUp, alone, with_frames, with_row, with_code, lookup_of}
+use Rattle.gsym_resolver.specs.Lookup.{Landing, landing_at, position_at, call_at, calls_at, moved_up, LookedUp, alone}
+use Rattle.gsym_resolver.specs.Lookup.{with_frames, with_row, with_code, lookup_of}
 use Rattle.gsym.specs.Names.{IsNameIn}
 
 -- what holds of the answer's name and of those of its records

@@ -1,17 +1,20 @@
 -- What `lookup` promises follows from its equation with the definition, and from what it leaves of the list.
 -- Assumes nothing.
-use Rattle.std.proofs.Common.{◌≡◌, ◌↔◌, ◌∙◌, ap, sym, refl, ℕ, ◌⊎◌, ◌&&◌, false, Ok, Err, Result, IsOk, IfOk, OnErr, List, [], length, length-take, take, drop, arith}
+use Rattle.std.proofs.Common.{◌≡◌, ◌↔◌, ◌∙◌, ap, sym, refl, ℕ, ◌⊎◌, ◌&&◌, false, Ok, Err, Result, IsOk, IfOk, OnErr}
+use Rattle.std.proofs.Common.{List, [], length, length-take, take, drop, arith}
 use Rattle.std.specs.Result.{IsErrOf}
 use Rattle.gsym_types.specs.declared.Address.{Address}
 use Rattle.gsym_types.specs.declared.Answer.{Answer}
 use Rattle.gsym_types.specs.declared.Frame.{Frame}
 use Rattle.gsym_types.specs.declared.Options.{Options}
 use Rattle.gsym_types.specs.declared.Refusal.{Refusal}
+use Rattle.gsym_inline.specs.Block.{room_of}
 use Rattle.gsym_resolver.specs.Lookup.{lookup_of, looked_up, plain_options}
 use Rattle.gsym_resolver.specs.Met.{Met}
 use Rattle.gsym_resolver.proofs.Unasked.{lookup_unasked}
-use Rattle.gsym_resolver.proofs.Calls.{call_refused, call_blocks, call_answered, call_listed, call_covers, call_below, call_count}
-use Rattle.gsym.specs.Lookups.{room_in, records_in, MeetsLookup}
+use Rattle.gsym_resolver.proofs.Calls.{call_refused, call_blocks, call_answered, call_listed, call_covers, call_below}
+use Rattle.gsym_resolver.proofs.Calls.{call_count}
+use Rattle.gsym.specs.Lookups.{records_in, MeetsLookup}
 use Rattle.gsym.proofs.Named.{lookup_named}
 
 -- refused exactly where a condition is met, there is an answer exactly where none is
@@ -23,11 +26,11 @@ answered_unmet (Err r) M h = (λ e. absurd cc, λ none. absurd (none r ((h r).0 
 
 pub promised :
     (file : List ℕ) (addr : Address) (o : Options) (result : Result Answer Refusal) (old new : List Frame) →
-    looked_up result (records_in result new) ≡ lookup_of file addr o (room_in old) →
+    looked_up result (records_in result new) ≡ lookup_of file addr o (room_of (length old)) →
     IfOk result (λ a. drop a.count new ≡ drop a.count old) → OnErr result (new ≡ old) →
     ((o.code_info ≡ false) ⊎ (o.inlining ≡ false) → new ≡ old) → MeetsLookup file addr o result old new
 promised file addr o (Ok a) old new e stays kept bare =
-    let room = room_in old in
+    let room = room_of (length old) in
     let count : a.count ≡ length (take a.count new) = call_count file addr o room (Ok a) (take a.count new) e in
     let refused = call_refused file addr o room (Ok a) (take a.count new) e in
     let named = lookup_named file addr o room (record { answer = a; frames = take a.count new }) (sym e) in
@@ -48,7 +51,7 @@ promised file addr o (Ok a) old new e stays kept bare =
       exact = e;
     }
 promised file addr o (Err r) old new e stays kept bare =
-    let room = room_in old in
+    let room = room_of (length old) in
     let refused = call_refused file addr o room (Err r) [] e in
     record {
       refused = refused;
@@ -71,8 +74,9 @@ promised file addr o (Err r) old new e stays kept bare =
 module _ (file : List ℕ) (addr : Address) (o : Options) (result : Result Answer Refusal) (frames : List Frame)
     (e : looked_up result [] ≡ lookup_of file addr (plain_options o.code_info) 0) where
   pub plain_exact :
-      (o.code_info && o.inlining) ≡ false → looked_up result (records_in result frames) ≡ lookup_of file addr o (room_in frames)
-  plain_exact h = go result e ∙ sym (lookup_unasked file addr o.code_info o.inlining (room_in frames) h)
+      (o.code_info && o.inlining) ≡ false →
+      looked_up result (records_in result frames) ≡ lookup_of file addr o (room_of (length frames))
+  plain_exact h = go result e ∙ sym (lookup_unasked file addr o.code_info o.inlining (room_of (length frames)) h)
     where
       go :
           (x : Result Answer Refusal) → looked_up x [] ≡ lookup_of file addr (plain_options o.code_info) 0 →

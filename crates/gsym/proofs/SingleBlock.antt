@@ -18,14 +18,16 @@ module _ (symbol addr room : ℕ) (bytes : List ℕ) (result : Result ℕ Refusa
   pub block_reads : IsOk result ↔ Reads symbol addr room bytes
   block_reads = go result e
     where
-      go : (x : Result ℕ Refusal) → frames_in x frames ≡ block_of symbol addr room bytes → IsOk x ↔ Reads symbol addr room bytes
+      go : (x : Result ℕ Refusal) → frames_in x frames ≡ block_of symbol addr room bytes →
+          IsOk x ↔ Reads symbol addr room bytes
       go (Ok n) e = (
         λ i. (reads-iff symbol addr room bytes).0 (subst IsOk e refl),
         λ R. refl,
       )
       go (Err r) e = (
         λ i. absurd cc,
-        λ R. let z : IsOk (frames_in (Err r) frames) = subst IsOk (sym e) ((reads-iff symbol addr room bytes).1 R) in absurd cc,
+        λ R. let z : IsOk (frames_in (Err r) frames) = subst IsOk (sym e)
+            ((reads-iff symbol addr room bytes).1 R) in absurd cc,
       )
 
   pub block_listed : IfOk result (λ n. ListsFrames symbol addr room bytes (take n frames))

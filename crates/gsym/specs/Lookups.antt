@@ -1,6 +1,7 @@
 -- What a lookup leaves in the list that is lent to it, and what it promises.
 -- Assumes nothing.
-use Rattle.std.specs.Prelude.{◌≡◌, ◌↔◌, ◌≤◌, ◌<◌, ◌⊎◌, ℕ, min, Bool, true, false, List, [], length, take, drop, All, Result, Ok, Err, IsOk, IfOk, IfErr, OnErr}
+use Rattle.std.specs.Prelude.{◌≡◌, ◌↔◌, ◌≤◌, ◌<◌, ◌⊎◌, ℕ, Bool, true, false, List, [], length, take, drop, All, Result}
+use Rattle.std.specs.Prelude.{Ok, Err, IsOk, IfOk, IfErr, OnErr}
 use Rattle.std.specs.Result.{IsErrOf}
 use Rattle.gsym_types.specs.declared.Address.{Address}
 use Rattle.gsym_types.specs.declared.Answer.{Answer}
@@ -9,16 +10,13 @@ use Rattle.gsym_types.specs.declared.Options.{Options}
 use Rattle.gsym_types.specs.declared.Refusal.{Refusal}
 use Rattle.gsym_types.specs.declared.Refusal.TheVariants.{TooManyFrames}
 use Rattle.gsym_types.specs.Refusal.{number_of}
+use Rattle.gsym_inline.specs.Block.{room_of}
 use Rattle.gsym_parser.specs.Entries.{covered_by}
 use Rattle.gsym_resolver.specs.Lookup.{LookedUp, lookup_of, looked_up}
 use Rattle.gsym_resolver.specs.Met.{Met}
 use Rattle.gsym_resolver.specs.Answered.{Answered}
 use Rattle.gsym_resolver.specs.Blocks.{RefusedByBlock, Listed}
 use Rattle.gsym.specs.Names.{IsNameIn}
-
--- how many frames there is room for in a list
-abbrev pub room_in : List Frame → ℕ
-room_in frames = min 64 (length frames)
 
 -- an answer with its records, which stand at the front of the list
 abbrev pub with_records : Answer → List Frame → LookedUp
@@ -37,12 +35,13 @@ has_too_many (Ok a) = false
 
 -- what `lookup` ensures, clause by clause, of a file, an address and options, what it returns, and the list before and
 -- after
-pub record MeetsLookup (file : List ℕ) (addr : Address) (o : Options) (result : Result Answer Refusal) (old new : List Frame) : Type 0 where
-  pub refused : (r : Refusal) → IsErrOf result r ↔ Met file addr o (room_in old) r
-  pub unmet : IsOk result ↔ ((r : Refusal) → Met file addr o (room_in old) r → ⊥)
-  pub blocks : IfErr result (λ r. 10 ≤ number_of r → RefusedByBlock file addr o (room_in old) r)
-  pub answered : IfOk result (λ a. Answered file addr o (room_in old) (with_records a new))
-  pub listed : IfOk result (λ a. 0 < a.count → Listed file addr o (room_in old) (with_records a new))
+pub record MeetsLookup (file : List ℕ) (addr : Address) (o : Options) (result : Result Answer Refusal)
+    (old new : List Frame) : Type 0 where
+  pub refused : (r : Refusal) → IsErrOf result r ↔ Met file addr o (room_of (length old)) r
+  pub unmet : IsOk result ↔ ((r : Refusal) → Met file addr o (room_of (length old)) r → ⊥)
+  pub blocks : IfErr result (λ r. 10 ≤ number_of r → RefusedByBlock file addr o (room_of (length old)) r)
+  pub answered : IfOk result (λ a. Answered file addr o (room_of (length old)) (with_records a new))
+  pub listed : IfOk result (λ a. 0 < a.count → Listed file addr o (room_of (length old)) (with_records a new))
   pub covered : IfOk result (λ a. covered_by addr a.addr a.size ≡ true)
   pub below : IfOk result (λ a. a.addr.0 ≤ addr.0)
   pub name : IfOk result (λ a. IsNameIn file a.name)
@@ -51,4 +50,4 @@ pub record MeetsLookup (file : List ℕ) (addr : Address) (o : Options) (result 
   pub stays : IfOk result (λ a. drop a.count new ≡ drop a.count old)
   pub kept : OnErr result (new ≡ old)
   pub bare : (o.code_info ≡ false) ⊎ (o.inlining ≡ false) → new ≡ old
-  pub exact : looked_up result (records_in result new) ≡ lookup_of file addr o (room_in old)
+  pub exact : looked_up result (records_in result new) ≡ lookup_of file addr o (room_of (length old))

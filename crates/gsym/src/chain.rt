@@ -10,8 +10,8 @@ use gsym_types::{Answer, Frame, Position, Text};
 pub struct Call {
     /// Its name, which is UTF-8.
     pub name: Text,
-    /// The position that execution had reached in it. A call inlined there always has one; the symbol has none where none
-    /// is known.
+    /// The position that execution had reached in it. A call inlined there always has one; the symbol has none where
+    /// none is known.
     pub position: Option<Position>,
 }
 

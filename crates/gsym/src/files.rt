@@ -22,7 +22,8 @@ pub fn open(file: &[u8]) -> Gsym<'_>
 
 // Each method is the function of its name, for those who opened a file.
 impl<'a> Gsym<'a> {
-    ghost use Rattle.std.specs.Prelude.{◌≡◌, ◌+◌, ◌<◌, ◌≤◌, ◌↔◌, [], length, take, All, IfOk, IfSome, IsSome, OnErr, IsUtf8};
+    ghost use Rattle.std.specs.Prelude.{◌≡◌, ◌+◌, ◌<◌, ◌≤◌, ◌↔◌, [], length, take, All, IfOk, IfSome, IsSome, OnErr};
+    ghost use Rattle.std.specs.Prelude.{IsUtf8};
     ghost use Rattle.gsym_strtab.specs.Strings.{part_of, StartsAt};
     ghost use Rattle.gsym.specs.Lookups.{MeetsLookup};
     ghost use Rattle.gsym.specs.CallOrder.{calls_in_order, calls_left};

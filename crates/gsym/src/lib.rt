@@ -1,6 +1,6 @@
-//! What a user names (RULES, "Calls"): the symbol of an address with its source position and the calls inlined there, the
-//! frames of a single block, and the strings that an answer points to, on the bytes of a file that the caller lends. What
-//! is written goes into a list that the caller lends too; nothing is allocated.
+//! What a user names (RULES, "Calls"): the symbol of an address with its source position and the calls inlined there,
+//! the frames of a single block, and the strings that an answer points to, on the bytes of a file that the caller
+//! lends. What is written goes into a list that the caller lends too; nothing is allocated.
 //!
 //!     lookups   the symbol of an address
 //!     blocks    the frames of one inline block

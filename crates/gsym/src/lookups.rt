@@ -1,14 +1,16 @@
 //! The symbol of an address, with all that is asked for, into a list that the caller lends (RULES, from "Header and
 //! tables" to "Putting the answer together").
-ghost use Rattle.std.specs.Prelude.{◌≡◌, ◌↔◌, ◌≤◌, ◌<◌, ◌⊎◌, false, true, min, length, take, drop, All, IsOk, IfOk, IfErr, OnErr, IsErrOf};
+ghost use Rattle.std.specs.Prelude.{◌≡◌, ◌↔◌, ◌≤◌, ◌<◌, ◌⊎◌, false, true, min, length, take, drop, All, IsOk, IfOk};
+ghost use Rattle.std.specs.Prelude.{IfErr, OnErr, IsErrOf};
 ghost use Rattle.gsym_types.specs.declared.Refusal.{Refusal};
 ghost use Rattle.gsym_types.specs.Refusal.{number_of};
+ghost use Rattle.gsym_inline.specs.Block.{room_of};
 ghost use Rattle.gsym_parser.specs.Entries.{covered_by};
 ghost use Rattle.gsym_resolver.specs.Lookup.{lookup_of, looked_up, all_options};
 ghost use Rattle.gsym_resolver.specs.Met.{Met};
 ghost use Rattle.gsym_resolver.specs.Answered.{Answered};
 ghost use Rattle.gsym_resolver.specs.Blocks.{RefusedByBlock, Listed};
-ghost use Rattle.gsym.specs.Lookups.{room_in, records_in, with_records, has_too_many};
+ghost use Rattle.gsym.specs.Lookups.{records_in, with_records, has_too_many};
 ghost use Rattle.gsym.specs.Names.{IsNameIn};
 
 use arrayvec::ArrayVec;
@@ -17,8 +19,8 @@ use gsym_types::{Address, Answer, Frame, MAX_FRAMES, Options, Refusal};
 /// The symbol of an address with all that is asked for. Each call inlined there but the outermost, which gives the
 /// symbol its name, becomes a record, written over the first ones of `frames`. There is room for as many frames as the
 /// list has places, and for 64 at most; they count the one that becomes no record. Records past the count stay as they
-/// are. Refused with the condition of RULES ("Refusal numbers") that is met first, 1 to 14; a refusal changes no record.
-/// Without both options the list isn't touched (RULES, "Calls").
+/// are. Refused with the condition of RULES ("Refusal numbers") that is met first, 1 to 14; a refusal changes no
+/// record. Without both options the list isn't touched (RULES, "Calls").
 pub fn lookup(
     file: &[u8],
     addr: Address,
@@ -27,19 +29,19 @@ pub fn lookup(
 ) -> Result<Answer, Refusal>
     // Refused exactly where its condition is met, of several the first in the order of RULES.
     ensures refused { (r : Refusal) → IsErrOf result r
-        ↔ Met file.now addr options (room_in frames.old) r }
+        ↔ Met file.now addr options (room_of (length frames.old)) r }
     // There is an answer exactly where no condition is met.
     ensures unmet { IsOk result
-        ↔ ((r : Refusal) → Met file.now addr options (room_in frames.old) r → ⊥) }
+        ↔ ((r : Refusal) → Met file.now addr options (room_of (length frames.old)) r → ⊥) }
     // A refusal from 10 on is the first fault of one of the entry's blocks, the first that doesn't list none.
     ensures blocks { IfErr result (λ r. 10 ≤ number_of r
-        → RefusedByBlock file.now addr options (room_in frames.old) r) }
+        → RefusedByBlock file.now addr options (room_of (length frames.old)) r) }
     // Else name, position, size and records are what the data of the entry say that the address lands on.
     ensures answered { IfOk result (λ a.
-        Answered file.now addr options (room_in frames.old) (with_records a frames.new)) }
+        Answered file.now addr options (room_of (length frames.old)) (with_records a frames.new)) }
     // Where there are records, they are those of the first inline block of the entry that lists anything.
     ensures listed { IfOk result (λ a. 0 < a.count
-        → Listed file.now addr options (room_in frames.old) (with_records a frames.new)) }
+        → Listed file.now addr options (room_of (length frames.old)) (with_records a frames.new)) }
     // The symbol covers the address, and isn't above it.
     ensures covered { IfOk result (λ a. covered_by addr a.addr a.size ≡ true) }
     ensures below { IfOk result (λ a. a.addr.0 ≤ addr.0) }
@@ -53,7 +55,7 @@ pub fn lookup(
     ensures bare { (options.code_info ≡ false) ⊎ (options.inlining ≡ false)
         → frames.new ≡ frames.old }
     ensures exact { looked_up result (records_in result frames.new)
-        ≡ lookup_of file.now addr options (room_in frames.old) }
+        ≡ lookup_of file.now addr options (room_of (length frames.old)) }
 {
     lookup_by(file, addr, options, frames)
 }
@@ -71,7 +73,7 @@ fn lookup_by(
     ensures bare { (options.code_info ≡ false) ⊎ (options.inlining ≡ false)
         → frames.new ≡ frames.old }
     ensures exact { looked_up result (records_in result frames.new)
-        ≡ lookup_of file.now addr options (room_in frames.old) }
+        ≡ lookup_of file.now addr options (room_of (length frames.old)) }
 {
     if options.code_info && options.inlining {
         lookup_inlined(file, addr, frames)
@@ -83,14 +85,14 @@ fn lookup_by(
 // How many frames a lookup has room for at first: most addresses have fewer.
 const FIRST_FRAMES: usize = 16;
 
-// A lookup with position and inlined calls. Most addresses have few frames, and a large list costs more to fill than they
-// cost to read; more room changes nothing but the refusal for too many frames.
+// A lookup with position and inlined calls. Most addresses have few frames, and a large list costs more to fill than
+// they cost to read; more room changes nothing but the refusal for too many frames.
 fn lookup_inlined(file: &[u8], addr: Address, frames: &mut [Frame]) -> Result<Answer, Refusal>
     ensures stays { IfOk result (λ a. drop a.count frames.new ≡ drop a.count frames.old) }
     ensures kept { OnErr result (frames.new ≡ frames.old) }
     ensures length { length frames.new ≡ length frames.old }
     ensures exact { looked_up result (records_in result frames.new)
-        ≡ lookup_of file.now addr all_options (room_in frames.old) }
+        ≡ lookup_of file.now addr all_options (room_of (length frames.old)) }
 {
     let few = lookup_within::<FIRST_FRAMES>(file, addr, frames);
     if !has_too_many(&few) {
@@ -112,12 +114,13 @@ fn lookup_within<const N: usize>(
     addr: Address,
     frames: &mut [Frame],
 ) -> Result<Answer, Refusal>
+    // It bounds a constant that each call names, which no type does.
     requires { N ≤ 64 }
     ensures stays { IfOk result (λ a. drop a.count frames.new ≡ drop a.count frames.old) }
     ensures kept { OnErr result (frames.new ≡ frames.old) }
     ensures length { length frames.new ≡ length frames.old }
     ensures exact { looked_up result (records_in result frames.new)
-        ≡ lookup_of file.now addr all_options (min 64 (min N (length frames.old))) }
+        ≡ lookup_of file.now addr all_options (room_of (min N (length frames.old))) }
 {
     let mut records: ArrayVec<Frame, N> = ArrayVec::new();
     let answer = gsym_resolver::lookup_in(file, addr, Options::ALL, frames.len(), &mut records)?;

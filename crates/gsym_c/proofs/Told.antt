@@ -1,10 +1,12 @@
 -- What the calls of C hosts tell, by what the calls that they hand on to do.
 -- Assumes nothing.
-use Rattle.std.proofs.Common.{Ok, Err, Result, IsOk, IfOk, IfErr, Option, Some, None, true, ℕ, ◌≤◌, List, take, subst, ◌↔◌, ◌≡◌, refl, ap, arith}
+use Rattle.std.proofs.Common.{Ok, Err, Result, IsOk, IfOk, IfErr, Option, Some, None, true, ℕ, ◌≤◌, List, take, length}
+use Rattle.std.proofs.Common.{subst, ◌↔◌, ◌≡◌, refl, ap, arith}
 use Rattle.std.specs.Result.{IsErrOf}
 use Rattle.gsym_types.specs.declared.InlineFrame.{InlineFrame}
 use Rattle.gsym_types.specs.declared.Refusal.{Refusal}
 use Rattle.gsym_types.specs.Refusal.{number_of}
+use Rattle.gsym_inline.specs.Block.{room_of}
 use Rattle.gsym_inline.specs.Reads.{Reads}
 use Rattle.gsym_inline.specs.ListsFrames.{ListsFrames}
 use Rattle.gsym_inline.specs.Steps.{steps_of}
@@ -17,15 +19,17 @@ use Rattle.gsym_types.specs.declared.Position.{Position}
 use Rattle.gsym_parser.specs.Entries.{covered_by}
 use Rattle.gsym_resolver.specs.Lookup.{lookup_of, looked_up}
 use Rattle.gsym_resolver.specs.Blocks.{RefusedByBlock}
-use Rattle.gsym.specs.Lookups.{room_in, records_in, MeetsLookup}
+use Rattle.gsym.specs.Lookups.{records_in, MeetsLookup}
 use Rattle.gsym_c.specs.declared.GsymListed.{GsymListed}
 use Rattle.gsym_c.specs.Laid.{address, with_position, answered, answer_in, listed}
 use Rattle.gsym.proofs.Numbers.{number_range, number_same}
 
-module _ (symbol addr room : ℕ) (bytes : List ℕ) (result : Result ℕ Refusal) (g : GsymListed) (laid : g ≡ listed result) where
+module _ (symbol addr room : ℕ) (bytes : List ℕ) (result : Result ℕ Refusal) (g : GsymListed)
+    (laid : g ≡ listed result) where
   pub told_listed :
       (after : List InlineFrame) →
-      IsOk result ↔ Reads symbol addr room bytes → IfOk result (λ n. ListsFrames symbol addr room bytes (take n after)) →
+      IsOk result ↔ Reads symbol addr room bytes →
+      IfOk result (λ n. ListsFrames symbol addr room bytes (take n after)) →
       (g.number ≡ 0) ↔ ListsFrames symbol addr room bytes (take g.count after)
   told_listed after = go result laid
     where
@@ -56,16 +60,17 @@ module _ (symbol addr room : ℕ) (bytes : List ℕ) (result : Result ℕ Refusa
 
 module _ (file : List ℕ) (addr : Address) (o : Options) (found : Result Answer Refusal) (old new : List Frame)
     (p : MeetsLookup file addr o found old new) where
-  pub told_exact : answered found ≡ answered (answer_in (lookup_of file addr o (room_in old)))
+  pub told_exact : answered found ≡ answered (answer_in (lookup_of file addr o (room_of (length old))))
   told_exact = go found p.exact
     where
       go :
-          (x : Result Answer Refusal) → looked_up x (records_in x new) ≡ lookup_of file addr o (room_in old) →
-          answered x ≡ answered (answer_in (lookup_of file addr o (room_in old)))
+          (x : Result Answer Refusal) → looked_up x (records_in x new) ≡ lookup_of file addr o (room_of (length old)) →
+          answered x ≡ answered (answer_in (lookup_of file addr o (room_of (length old))))
       go (Ok a) e = ap (λ l. answered (answer_in l)) e
       go (Err r) e = ap (λ l. answered (answer_in l)) e
 
-  pub told_covered : (answered found).number ≡ 0 → covered_by addr (address (answered found).addr) (answered found).size ≡ true
+  pub told_covered :
+      (answered found).number ≡ 0 → covered_by addr (address (answered found).addr) (answered found).size ≡ true
   told_covered = go found p.covered
     where
       covers : (a : Answer) (q : Option Position) → covered_by addr a.addr a.size ≡ true →
@@ -81,7 +86,7 @@ module _ (file : List ℕ) (addr : Address) (o : Options) (found : Result Answer
 
   pub told_blocks :
       (r : Refusal) → (answered found).number ≡ number_of r → 10 ≤ (answered found).number →
-      RefusedByBlock file addr o (room_in old) r
+      RefusedByBlock file addr o (room_of (length old)) r
   told_blocks r = go found p.blocks
     where
       zero-number : (a : Answer) (q : Option Position) → (with_position a q).number ≡ 0
@@ -89,7 +94,9 @@ module _ (file : List ℕ) (addr : Address) (o : Options) (found : Result Answer
       zero-number a None = refl
 
       go :
-          (x : Result Answer Refusal) → IfErr x (λ s. 10 ≤ number_of s → RefusedByBlock file addr o (room_in old) s) →
-          (answered x).number ≡ number_of r → 10 ≤ (answered x).number → RefusedByBlock file addr o (room_in old) r
+          (x : Result Answer Refusal) →
+          IfErr x (λ s. 10 ≤ number_of s → RefusedByBlock file addr o (room_of (length old)) s) →
+          (answered x).number ≡ number_of r → 10 ≤ (answered x).number →
+          RefusedByBlock file addr o (room_of (length old)) r
       go (Ok a) h e l = absurd (omega (arith, zero-number a a.position))
-      go (Err s) h e l = subst (RefusedByBlock file addr o (room_in old)) (number_same s r e) (h l)
+      go (Err s) h e l = subst (RefusedByBlock file addr o (room_of (length old))) (number_same s r e) (h l)

@@ -1,5 +1,5 @@
--- What C hosts get: what is asked for as bits, and answers laid out as C has them, with a number in place of a refusal and
--- zeros where there is nothing (RULES, "Calls" and "Refusal numbers").
+-- What C hosts get: what is asked for as bits, and answers laid out as C has them, with a number in place of a refusal
+-- and zeros where there is nothing (RULES, "Calls" and "Refusal numbers").
 -- Assumes nothing.
 use Rattle.std.specs.Prelude.{ℕ, ◌/◌, ◌%◌, ◌==◌, length, Option, Some, None, Result, Ok, Err}
 use Rattle.gsym_types.specs.declared.Address.{Address}

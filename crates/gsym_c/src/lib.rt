@@ -1,16 +1,16 @@
-//! What C hosts call; include/gsym.h is their manual. Each function hands its arguments on to `gsym`, and lays the answer
-//! out as C has it: a number in place of a refusal, and zeros where there is nothing. The records of the lent list are
-//! laid out so already. A call that hands records or an answer over has the number of their layout in its name, so that
-//! an object compiled for another layout doesn't link; the header maps the plain names to these.
+//! What C hosts call; include/gsym.h is their manual. Each function hands its arguments on to `gsym`, and lays the
+//! answer out as C has it: a number in place of a refusal, and zeros where there is nothing. The records of the lent
+//! list are laid out so already. A call that hands records or an answer over has the number of their layout in its
+//! name, so that an object compiled for another layout doesn't link; the header maps the plain names to these.
 #![tactic(auto)]
 
 mod laws;
 
-ghost use Rattle.std.specs.Prelude.{◌≡◌, ◌≢◌, ◌↔◌, ◌≤◌, ◌⊎◌, true, false, min, length, take, drop, Ok, Result};
+ghost use Rattle.std.specs.Prelude.{◌≡◌, ◌≢◌, ◌↔◌, ◌≤◌, ◌⊎◌, true, false, length, take, drop, Ok, Result};
 ghost use Rattle.gsym_types.specs.declared.Answer.{Answer};
 ghost use Rattle.gsym_types.specs.declared.Refusal.{Refusal};
 ghost use Rattle.gsym_types.specs.Refusal.{number_of};
-ghost use Rattle.gsym_inline.specs.Block.{block_of};
+ghost use Rattle.gsym_inline.specs.Block.{block_of, room_of};
 ghost use Rattle.gsym_inline.specs.ListsFrames.{ListsFrames};
 ghost use Rattle.gsym_inline.specs.Steps.{steps_of};
 ghost use Rattle.gsym_inline.specs.FirstFault.{FirstFault};
@@ -32,8 +32,10 @@ const VERSION: u32 = 200;
 #[derive(Clone, Copy, Debug, PartialEq, Eq, Default, Hash)]
 pub struct GsymAnswer {
     /// 0 where there is an answer, and else the number of the refusal.
+    // A number, and no `Result` around the rest: the C interface, whose hosts test it.
     pub number: u32,
     /// 1 where there is a position; else 0, and line, directory and file are 0 too.
+    // No `Option` around line, directory and file: the C interface, which has none.
     pub has_code: u32,
     /// Where the symbol starts.
     pub addr: u64,
@@ -64,6 +66,7 @@ pub struct GsymListed {
     /// How many frames were written to the front of the lent list, 0 where the block is refused.
     pub count: u64,
     /// 0 where the block reads, and else the number of the refusal.
+    // A number, and no `Result`: the C interface, whose hosts test it.
     pub number: u32,
 }
 
@@ -85,7 +88,7 @@ impl From<Result<Answer, Refusal>> for GsymAnswer {
     fn from(answer: Result<Answer, Refusal>) -> GsymAnswer {
         match answer {
             Ok(found) => {
-                let has_code = found.position.is_some() as u32;
+                let has_code = u32::from(found.position.is_some());
                 let position = found.position.unwrap_or_default();
                 GsymAnswer {
                     number: 0,
@@ -103,7 +106,7 @@ impl From<Result<Answer, Refusal>> for GsymAnswer {
                 }
             }
             Err(refusal) => GsymAnswer {
-                number: refusal.number() as u32,
+                number: u32::from(refusal.number()),
                 has_code: 0,
                 addr: 0,
                 size: 0,
@@ -120,10 +123,10 @@ impl From<Result<Answer, Refusal>> for GsymAnswer {
     }
 }
 
-/// The symbol of an address, with what `options` ask for: bit 0 its source position, bit 1 the calls inlined there, both
-/// or nothing of them; other bits are ignored. The records go to the front of `frames`, with room for as many frames as
-/// it has places, and for 64 at most. Written are exactly the records; a refusal (1 to 14) writes none, and without both
-/// bits the list isn't touched, nor is space for records filled (RULES, "Calls").
+/// The symbol of an address, with what `options` ask for: bit 0 its source position, bit 1 the calls inlined there,
+/// both or nothing of them; other bits are ignored. The records go to the front of `frames`, with room for as many
+/// frames as it has places, and for 64 at most. Written are exactly the records; a refusal (1 to 14) writes none, and
+/// without both bits the list isn't touched, nor is space for records filled (RULES, "Calls").
 #[unsafe(no_mangle)]
 pub extern "C" fn gsym_lookup_2(
     file: &[u8],
@@ -132,14 +135,15 @@ pub extern "C" fn gsym_lookup_2(
     frames: &mut [Frame],
 ) -> GsymAnswer
     ensures number { result.number ≤ 14 }
-    // A number from 1 on exactly where the condition of that refusal is met, of several the first in the order of RULES.
+    // A number from 1 on exactly where the condition of that refusal is met, of several the first in the order of
+    // RULES.
     ensures refused { (r : Refusal) → (result.number ≡ number_of r)
-        ↔ Met file.now (address addr) (options_of options) (min 64 (length frames.old)) r }
+        ↔ Met file.now (address addr) (options_of options) (room_of (length frames.old)) r }
     // Every other field is then 0, and the list as it was.
     ensures zeros { result.number ≢ 0 → (result ≡ refused_as result.number) × (frames.new ≡ frames.old) }
     // From 10 on it is the first fault of one of the entry's blocks, the first that doesn't list none.
     ensures blocks { (r : Refusal) → result.number ≡ number_of r → 10 ≤ result.number
-        → RefusedByBlock file.now (address addr) (options_of options) (min 64 (length frames.old)) r }
+        → RefusedByBlock file.now (address addr) (options_of options) (room_of (length frames.old)) r }
     ensures covered { result.number ≡ 0
         → covered_by (address addr) (address result.addr) result.size ≡ true }
     ensures below { result.addr ≤ addr }
@@ -148,7 +152,7 @@ pub extern "C" fn gsym_lookup_2(
     ensures bare { ((options_of options).code_info ≡ false) ⊎ ((options_of options).inlining ≡ false)
         → frames.new ≡ frames.old }
     ensures exact { result ≡ answered
-        (answer_in (lookup_of file.now (address addr) (options_of options) (min 64 (length frames.old)))) }
+        (answer_in (lookup_of file.now (address addr) (options_of options) (room_of (length frames.old)))) }
     // It is the answer of `gsym::lookup`, with all that that promises, laid out as C has it.
     ensures promises { (found : Result Answer Refusal) × (result ≡ answered found)
         × MeetsLookup file.now (address addr) (options_of options) found frames.old frames.new }
@@ -170,7 +174,7 @@ impl From<Result<usize, Refusal>> for GsymListed {
             },
             Err(fault) => GsymListed {
                 count: 0,
-                number: fault.number() as u32,
+                number: u32::from(fault.number()),
             },
         }
     }
@@ -189,16 +193,16 @@ pub extern "C" fn gsym_block_frames_2(
     ensures number { result.number ≤ 14 }
     // 0 exactly if the block reads: the list then begins with its frames, those of its open nodes that have a name.
     ensures listed { (result.number ≡ 0)
-        ↔ ListsFrames symbol addr (min 64 (length frames.old)) block.now (take result.count frames.new) }
+        ↔ ListsFrames symbol addr (room_of (length frames.old)) block.now (take result.count frames.new) }
     // Another number exactly if it is that of the first fault among the steps of reading the block.
     ensures refused { (r : Refusal) → (result.number ≡ number_of r)
-        ↔ FirstFault (min 64 (length frames.old)) (steps_of symbol addr block.now) r }
+        ↔ FirstFault (room_of (length frames.old)) (steps_of symbol addr block.now) r }
     ensures zeros { result.number ≢ 0 → (result.count ≡ 0) × (frames.new ≡ frames.old) }
     ensures within { (result.count ≤ length frames.new) × (result.count ≤ 64) }
     ensures stays { drop result.count frames.new ≡ drop result.count frames.old }
-    ensures exact { result ≡ block_listed (block_of symbol addr (min 64 (length frames.old)) block.now) }
+    ensures exact { result ≡ block_listed (block_of symbol addr (room_of (length frames.old)) block.now) }
     ensures list { result.number ≡ 0
-        → Ok (take result.count frames.new) ≡ block_of symbol addr (min 64 (length frames.old)) block.now }
+        → Ok (take result.count frames.new) ≡ block_of symbol addr (room_of (length frames.old)) block.now }
 {
     GsymListed::from(gsym::block_frames(block, Address(symbol), Address(addr), frames))
 }

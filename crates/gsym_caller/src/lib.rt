@@ -1,22 +1,22 @@
-//! Callers of `gsym` as a repository that takes it would write them. Each is proved with no proof file: what it returns,
-//! in the words of the library's clauses, that what was written lies in the list, that no difference of addresses
-//! wraps, that a name is there, and that a number picks a row of a table. What a caller must know of a call stands on
-//! the call.
+//! Callers of `gsym` as a repository that takes it would write them. Each is proved with no proof file: what it
+//! returns, in the words of the library's clauses, that what was written lies in the list, that no difference of
+//! addresses wraps, that a name is there, and that a number picks a row of a table. What a caller must know of a call
+//! stands on the call.
 #![tactic(auto)]
 
-ghost use Rattle.std.specs.Prelude.{◌≡◌, ◌↔◌, ◌+◌, ◌-◌, ◌^◌, ◌≤◌, min, fold, take, length, option_map, slice_get, IfOk, IfSome, IsSome, IsTrue, OnErr, IsErrOf, false};
+ghost use Rattle.std.specs.Prelude.{◌≡◌, ◌↔◌, ◌+◌, ◌-◌, ◌^◌, ◌≤◌, min, fold, take, length, option_map, slice_get};
+ghost use Rattle.std.specs.Prelude.{IfSome, IsSome, IsErr, IsTrue, OnErr, IsErrOf, false};
 ghost use Rattle.std.specs.Result.{result_map_both};
 ghost use Rattle.gsym_types.specs.declared.Refusal.{Refusal};
 ghost use Rattle.gsym_types.specs.Refusal.{number_of};
 ghost use Rattle.gsym_strtab.specs.Strings.{part_of};
-ghost use Rattle.gsym_inline.specs.Block.{block_of};
+ghost use Rattle.gsym_inline.specs.Block.{block_of, room_of};
 ghost use Rattle.gsym_resolver.specs.Lookup.{lookup_of, all_options, plain_options};
 ghost use Rattle.gsym_resolver.specs.Met.{Met};
-ghost use Rattle.gsym.specs.Lookups.{room_in};
 ghost use Rattle.gsym.specs.CallOrder.{calls_in_order};
 ghost use Rattle.gsym.specs.Names.{IsNameIn};
 ghost use Rattle.gsym_resolver.specs.WithPlaces.{bytes_of};
-ghost use Rattle.gsym_caller.specs.Answers.{highest_of, innermost_name};
+ghost use Rattle.gsym_caller.specs.Answers.{highest_of, highest_call_line_of, innermost_name, status_of};
 
 use gsym::{Address, Answer, Frame, Gsym, InlineFrame, LineNumber, Options, Refusal, StrOffset};
 
@@ -25,7 +25,7 @@ use gsym::{Address, Answer, Frame, Gsym, InlineFrame, LineNumber, Options, Refus
 pub fn highest_line(file: &[u8], addr: Address, frames: &mut [Frame]) -> Result<LineNumber, Refusal>
     ensures kept { OnErr result (frames.new ≡ frames.old) }
     ensures exact { result ≡ result_map_both (λ l. highest_of l.frames) (λ r. r)
-        (lookup_of file.now addr all_options (room_in frames.old)) }
+        (lookup_of file.now addr all_options (room_of (length frames.old))) }
 {
     let answer = gsym::lookup(file, addr, Options::ALL, frames)?;
     Ok(highest_of(&frames[..answer.count]))
@@ -56,27 +56,38 @@ fn highest_of(records: &[Frame]) -> LineNumber
 
 /// How many bytes an address lies past the start of its symbol.
 pub fn bytes_in(gsym: &Gsym<'_>, addr: Address) -> Result<u64, Refusal>
-    ensures { IfOk result (λ n. n ≤ addr.0) }
+    ensures exact { result ≡ result_map_both (λ l. addr.0 - l.answer.addr.0) (λ r. r)
+        (lookup_of gsym.now.file.now addr (plain_options false) 0) }
 {
     let answer = gsym.lookup(addr, Options::default(), &mut [])?;
     Ok(addr.0 - answer.addr.0)
 }
 
-/// The largest call line of a block's frames, with a list that is lent.
-pub fn last_call_line(
+/// The highest call line of a block's frames, with a list that is lent.
+pub fn highest_call_line(
     block: &[u8],
     symbol: Address,
     addr: Address,
     frames: &mut [InlineFrame],
 ) -> Result<LineNumber, Refusal>
     ensures kept { OnErr result (frames.new ≡ frames.old) }
+    ensures exact { result ≡ result_map_both highest_call_line_of (λ r. r)
+        (block_of symbol.0 addr.0 (room_of (length frames.old)) block.now) }
 {
     let count = gsym::block_frames(block, symbol, addr, frames)?;
-    let mut last = LineNumber(0);
-    for frame in &frames[..count] {
-        last = last.max(frame.call_line);
-    }
-    Ok(last)
+    Ok(highest_call_line_of(&frames[..count]))
+}
+
+// The highest call line of some frames, 0 where there are none.
+fn highest_call_line_of(frames: &[InlineFrame]) -> LineNumber
+    ensures { result ≡ highest_call_line_of frames.now }
+{
+    LineNumber(
+        frames
+            .iter()
+            .map(|frame| frame.call_line.0)
+            .fold(0, |highest, line| highest.max(line)),
+    )
 }
 
 /// The function of a block's outermost frame, with an array that has room for every frame there may be.
@@ -91,7 +102,8 @@ pub fn outermost(block: &[u8], symbol: Address, addr: Address) -> Result<Option<
 
 /// The exit status of a tool: 0 where there is an answer, and else the number of the refusal.
 pub fn exit_status(gsym: &Gsym<'_>, addr: Address) -> u8
-    ensures { result ≤ 14 }
+    ensures refused { IsErr (lookup_of gsym.now.file.now addr (plain_options false) 0) ↔ (1 ≤ result) × (result ≤ 14) }
+    ensures exact { result ≡ status_of (lookup_of gsym.now.file.now addr (plain_options false) 0) }
 {
     match gsym.lookup(addr, Options::default(), &mut []) {
         Ok(_) => 0,

@@ -2,7 +2,8 @@
 -- parents before children, siblings in file order, all below one sibling before the next. The frames are so listed, and
 -- no other list of frames is.
 -- Assumes nothing.
-use Rattle.std.proofs.Common.{ℕ, zero, suc, ◌<◌, List, [], ◌∷◌, map, ◌↔◌, ◌≡◌, refl, ap, ap₂, sym, ◌∙◌, length, get_or, arith}
+use Rattle.std.proofs.Common.{ℕ, zero, suc, ◌<◌, List, [], ◌∷◌, map, ◌↔◌, ◌≡◌, refl, ap, ap₂, sym, ◌∙◌, length, get_or}
+use Rattle.std.proofs.Common.{arith}
 use mathlib.Core.List.Memᴰ
 use mathlib.Core.List.{Memᴰ}
 use Rattle.std.specs.List.{Contains}
@@ -121,7 +122,8 @@ module _ (addr base : ℕ) (forest : Forest) where
   paths-listed = record { exactly = contained; order = ordered addr base forest }
 
   -- listed paths are as many as frames
-  pub listed-count : (ps : List NodePath) → ListedPaths addr base forest ps → length ps ≡ length (frames addr base forest)
+  pub listed-count :
+      (ps : List NodePath) → ListedPaths addr base forest ps → length ps ≡ length (frames addr base forest)
   listed-count ps l = ap length (unique ps l) ∙ sym frames-count
 
   -- and their frames are `frames`
@@ -142,5 +144,9 @@ module _ (addr base : ℕ) (forest : Forest) where
       ↔ (fs ≡ frames addr base forest)
   frames-listed fs = (
     λ l. (listed-frames l.0 l.1 fs).0 l.2,
-    λ e. (frame_paths addr base forest, paths-listed, (listed-frames (frame_paths addr base forest) paths-listed fs).1 e),
+    λ e. (
+      frame_paths addr base forest,
+      paths-listed,
+      (listed-frames (frame_paths addr base forest) paths-listed fs).1 e,
+    ),
   )

@@ -5,7 +5,8 @@ use Rattle.std.specs.Prelude.{Some}
 use Rattle.gsym_inline.specs.Tree.{Node, Forest, none, tree}
 use Rattle.gsym_inline.specs.Frames.{child_base}
 use Rattle.gsym_inline.proofs.Forests.{Fits, depth}
-use Rattle.gsym_inline.specs.Paths.{NodePath, top, under, child, UpTo, level, Placed, node_at, ContainsAddress, Open, Judged, on_top, of_open, NodeFits, JudgedFit, NoneOn, NoneBelow}
+use Rattle.gsym_inline.specs.Paths.{NodePath, top, under, child, UpTo, level, Placed, node_at, ContainsAddress, Open}
+use Rattle.gsym_inline.specs.Paths.{Judged, on_top, of_open, NodeFits, JudgedFit, NoneOn, NoneBelow}
 use Rattle.gsym_inline.proofs.PathLists.{later}
 use Rattle.gsym_inline.proofs.ByPathsTests.{contains-iff, node-fits-iff}
 use Rattle.gsym_inline.proofs.ByPathsWalk.{
@@ -40,12 +41,16 @@ module _ (addr base : ℕ) (n : Node) (children rest : Forest) where
   judged-under-inv p (on_top i e) = let z : ◌≡◌ {A = ℕ} 0 1 = cc in absurd (omega arith)
   judged-under-inv p (of_open (top i) k e o) =
       let a : i ≡ 0 = cc in
-      let b : p ≡ top k = cc in
-      ((open-first addr base n children rest).0 (subst (λ j. Open addr base (tree n children rest) (top j)) a o), on_top k b)
+      let b : p ≡ top k = cc in (
+        (open-first addr base n children rest).0
+            (subst (λ j. Open addr base (tree n children rest) (top j)) a o),
+        on_top k b,
+      )
   judged-under-inv p (of_open (under i q) k e o) =
       let a : i ≡ 0 = cc in
       let b : p ≡ child q k = cc in
-      let c = (open-under addr base n children rest q).0 (subst (λ j. Open addr base (tree n children rest) (under j q)) a o) in
+      let c = (open-under addr base n children rest q).0
+      (subst (λ j. Open addr base (tree n children rest) (under j q)) a o) in
       (c.0, of_open q k b c.1)
 
   judged-later : (p : NodePath) → Judged addr base rest p → Judged addr base (tree n children rest) (later p)
@@ -60,12 +65,14 @@ module _ (addr base : ℕ) (n : Node) (children rest : Forest) where
       let a : j ≡ suc i = cc in
       let b : p ≡ top k = cc in
       of_open (top i) k (ap (under i) b)
-      ((open-later addr base n children rest (top i)).0 (subst (λ m. Open addr base (tree n children rest) (top m)) a o))
+      ((open-later addr base n children rest (top i)).0
+      (subst (λ m. Open addr base (tree n children rest) (top m)) a o))
   judged-later-inv (under i p) (of_open (under j q) k e o) =
       let a : j ≡ suc i = cc in
       let b : p ≡ child q k = cc in
       of_open (under i q) k (ap (under i) b)
-      ((open-later addr base n children rest (under i q)).0 (subst (λ m. Open addr base (tree n children rest) (under m q)) a o))
+      ((open-later addr base n children rest (under i q)).0
+      (subst (λ m. Open addr base (tree n children rest) (under m q)) a o))
 
 -- ---- open nodes are judged
 
@@ -124,9 +131,11 @@ judged-fits addr base (tree n children rest) f =
       λ h.
           let c = (contains-iff addr base n).0 h in
           judged-fits addr (child_base base n) children
-          (λ p x e j. f (under 0 p) x (node-under base n children rest p ∙ e) (judged-under addr base n children rest p c j)),
+          (λ p x e j. f (under 0 p) x (node-under base n children rest p ∙ e)
+          (judged-under addr base n children rest p c j)),
       judged-fits addr base rest
-          (λ p x e j. f (later p) x (node-later base n children rest p ∙ e) (judged-later addr base n children rest p j)),
+          (λ p x e j. f (later p) x (node-later base n children rest p ∙ e)
+          (judged-later addr base n children rest p j)),
     )
 
 -- no judged node has a start or an end above 2^64-1 or a call file above the limit
@@ -159,8 +168,10 @@ none-on-depth zero base (tree n children rest) f =
 none-on-depth (suc l) base (tree n children rest) f =
     omega (
       arith,
-      none-on-depth l (child_base base n) children (λ p x e h. f (under 0 p) x (node-under base n children rest p ∙ e) (ap suc h)),
-      none-on-depth (suc l) base rest (λ p x e h. f (later p) x (node-later base n children rest p ∙ e) (level-later p ∙ h)),
+      none-on-depth l (child_base base n) children
+          (λ p x e h. f (under 0 p) x (node-under base n children rest p ∙ e) (ap suc h)),
+      none-on-depth (suc l) base rest
+          (λ p x e h. f (later p) x (node-later base n children rest p ∙ e) (level-later p ∙ h)),
     )
 
 module _ (l base : ℕ) (forest : Forest) where

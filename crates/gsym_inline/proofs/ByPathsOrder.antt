@@ -1,7 +1,8 @@
 -- The order of paths: it is strict and total and is that of `Before`, and a list that ordered in it is settled
 -- by its members.
 -- Assumes nothing.
-use Rattle.std.proofs.Common.{ℕ, zero, suc, ◌≤◌, ◌<◌, List, [], ◌∷◌, ◌++◌, map, ◌↔◌, ◌⊎◌, inl, inr, ⊎_elim, ◌≡◌, refl, ap, ap₂, sym, subst, ◌∙◌, length, get_or, arith}
+use Rattle.std.proofs.Common.{ℕ, zero, suc, ◌≤◌, ◌<◌, List, [], ◌∷◌, ◌++◌, map, ◌↔◌, ◌⊎◌, inl, inr, ⊎_elim, ◌≡◌, refl}
+use Rattle.std.proofs.Common.{ap, ap₂, sym, subst, ◌∙◌, length, get_or, arith}
 use mathlib.Core.List.Memᴰ
 use mathlib.Core.List.{Memᴰ}
 use Rattle.std.proofs.lemmas.Bool.{cases_lt}
@@ -121,7 +122,8 @@ pub ordered-append :
 unfolding InOrder
 ordered-append [] qs r s b = s
 ordered-append (p ∷ ps) qs r s b = (
-  λ q m. ⊎_elim (λ o. r.0 q (mem_contains ps q o)) (b p q (Memᴰ.head refl)) (Memᴰ.append_cases ps (contains_mem (ps ++ qs) q m)),
+  λ q m. ⊎_elim (λ o. r.0 q (mem_contains ps q o)) (b p q (Memᴰ.head refl))
+      (Memᴰ.append_cases ps (contains_mem (ps ++ qs) q m)),
   ordered-append ps qs r.1 s (λ x q m o. b x q (Memᴰ.tail m) o),
 )
 
@@ -149,12 +151,14 @@ module _ (d : NodePath) where
   unfolding InOrder
   ordered-at [] i j r l h = absurd (omega arith)
   ordered-at (p ∷ ps) i zero r l h = absurd (omega arith)
-  ordered-at (p ∷ ps) zero (suc j) r l h = r.0 (get_or ps j d) (mem_contains ps (get_or ps j d) (get_or-mem ps j (omega arith)))
+  ordered-at (p ∷ ps) zero (suc j) r l h =
+      r.0 (get_or ps j d) (mem_contains ps (get_or ps j d) (get_or-mem ps j (omega arith)))
   ordered-at (p ∷ ps) (suc i) (suc j) r l h = ordered-at ps i j r.1 (omega arith) (omega arith)
 
   -- no path stands at two places
   pub ordered-once :
-      (ps : List NodePath) (i j : ℕ) → InOrder ps → i < length ps → j < length ps → get_or ps i d ≡ get_or ps j d → i ≡ j
+      (ps : List NodePath) (i j : ℕ) → InOrder ps → i < length ps → j < length ps →
+      get_or ps i d ≡ get_or ps j d → i ≡ j
   ordered-once ps i j r h k e =
       ⊎_elim
       (λ (l : i < j). absurd (before-irreflexive (get_or ps j d) (rw e at (ordered-at ps i j r l k))))

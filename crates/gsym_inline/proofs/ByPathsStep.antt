@@ -24,7 +24,8 @@ use borrow.Author.Tests.{eqb-false, ne_eqb}
 use Rattle.gsym_types.specs.declared.InlineFrame.{InlineFrame}
 use Rattle.gsym_inline.specs.Tree.{Node, Forest, tree}
 use Rattle.gsym_inline.specs.Frames.{any_in, child_base, frame_of, named}
-use Rattle.gsym_inline.specs.Paths.{NodePath, top, under, first, Placed, frame_at, IsFrame, Before, parent, sibling, inside, InOrder}
+use Rattle.gsym_inline.specs.Paths.{NodePath, top, under, first, Placed, frame_at, IsFrame, Before, parent, sibling}
+use Rattle.gsym_inline.specs.Paths.{inside, InOrder}
 use Rattle.gsym_inline.proofs.PathLists.{later, own_path, frame_paths}
 use Rattle.gsym_inline.proofs.ByPathsOrder.{
   first-later,
@@ -203,7 +204,8 @@ module _ (addr base : ℕ) (n : Node) (children rest : Forest) where
       map here front ≡ map Some (if any_in addr base n.ranges then named n ++ fs else [])
   frames-front fs ih = go (any_in addr base n.ranges)
     where
-      go : (t : Bool) → map here (if t then own_path n ++ map (under 0) below else []) ≡ map Some (if t then named n ++ fs else [])
+      go : (t : Bool) → map here (if t then own_path n ++ map (under 0) below else [])
+          ≡ map Some (if t then named n ++ fs else [])
       go true =
           map-append here (own_path n) (map (under 0) below)
           ∙ ap₂ ◌++◌ frames-own (frames-under below ∙ ih)

@@ -1,6 +1,7 @@
 -- The tests on a node's ranges say what the statements over its ranges say.
 -- Assumes nothing.
-use Rattle.std.proofs.Common.{ℕ, ◌+◌, ◌≤◌, ◌<◌, Bool, true, false, true≢false, List, [], ◌∷◌, ◌↔◌, ◌≡◌, refl, ap, sym, ◌∙◌, ltb, leb, ltb-true, ltb-false, leb-true, lt-ltb, le-ltb, le-leb, if◌then◌else◌, cond}
+use Rattle.std.proofs.Common.{ℕ, ◌+◌, ◌≤◌, ◌<◌, Bool, true, false, true≢false, List, [], ◌∷◌, ◌↔◌, ◌≡◌, refl, ap, sym}
+use Rattle.std.proofs.Common.{◌∙◌, ltb, leb, ltb-true, ltb-false, leb-true, lt-ltb, le-ltb, le-leb, if◌then◌else◌, cond}
 use mathlib.Core.Bool.{false≢true}
 use mathlib.Core.List.{Memᴰ}
 use Rattle.gsym_inline.proofs.Members.{contains_mem, mem_contains}
@@ -61,7 +62,8 @@ module _ (addr base : ℕ) where
   in-nil = refl
 
   in-cons :
-      (r : Range) (rs : List Range) → any_in addr base (r ∷ rs) ≡ (if in_range addr base r then true else any_in addr base rs)
+      (r : Range) (rs : List Range) →
+      any_in addr base (r ∷ rs) ≡ (if in_range addr base r then true else any_in addr base rs)
   in-cons r rs = any_in-cons addr base r rs
 
   in-range-inv : (r : Range) → in_range addr base r ≡ true → (base + r.off ≤ addr) × (addr < base + r.off + r.size)
@@ -90,7 +92,8 @@ module _ (addr base : ℕ) where
 
       from : ContainsAddress addr base n → any_in addr base n.ranges ≡ true
       from c =
-          any_of (in_range addr base) (any_in addr base) in-nil in-cons c.range n.ranges (contains_mem n.ranges c.range c.own)
+          any_of (in_range addr base) (any_in addr base) in-nil in-cons c.range n.ranges
+          (contains_mem n.ranges c.range c.own)
           (in-range c.range c.start c.end)
 
 -- ---- sums and call files within the limits
@@ -100,7 +103,8 @@ module _ (base : ℕ) where
   unfolding any_large
   large-nil = refl
 
-  large-cons : (r : Range) (rs : List Range) → any_large base (r ∷ rs) ≡ (if too_large base r then true else any_large base rs)
+  large-cons :
+      (r : Range) (rs : List Range) → any_large base (r ∷ rs) ≡ (if too_large base r then true else any_large base rs)
   unfolding any_large
   large-cons r rs = refl
 

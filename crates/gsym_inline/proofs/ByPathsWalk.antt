@@ -43,7 +43,8 @@ module _ (base : ℕ) (n : Node) (children rest : Forest) where
       (x : Placed) → node_at base (tree n children rest) (top 0) ≡ Some x → record { base = base; node = n } ≡ x
   node-first-is x e = cc (node-first)
 
-  pub node-under : (p : NodePath) → node_at base (tree n children rest) (under 0 p) ≡ node_at (child_base base n) children p
+  pub node-under :
+      (p : NodePath) → node_at base (tree n children rest) (under 0 p) ≡ node_at (child_base base n) children p
   unfolding node_at
   node-under p = refl
 
@@ -69,7 +70,8 @@ module _ (addr base : ℕ) (n : Node) (children rest : Forest) where
     λ c. record { place = record { base = base; node = n }; there = node-first base n children rest; contains = c },
   )
 
-  holds-under : (p : NodePath) → Holds addr base (tree n children rest) (under 0 p) ↔ Holds addr (child_base base n) children p
+  holds-under :
+      (p : NodePath) → Holds addr base (tree n children rest) (under 0 p) ↔ Holds addr (child_base base n) children p
   holds-under p = (
     λ h. record { place = h.place; there = sym (node-under base n children rest p) ∙ h.there; contains = h.contains },
     λ h. record { place = h.place; there = node-under base n children rest p ∙ h.there; contains = h.contains },
@@ -90,12 +92,14 @@ module _ (addr base : ℕ) (n : Node) (children rest : Forest) where
 
   pub open-under :
       (p : NodePath) →
-      Open addr base (tree n children rest) (under 0 p) ↔ (ContainsAddress addr base n × Open addr (child_base base n) children p)
+      Open addr base (tree n children rest) (under 0 p)
+      ↔ (ContainsAddress addr base n × Open addr (child_base base n) children p)
   open-under p =
       (λ o. (holds-first.0 (o (top 0) refl), λ q u. (holds-under q).0 (o (under 0 q) (refl, u))), from)
     where
       from :
-          ContainsAddress addr base n × Open addr (child_base base n) children p → Open addr base (tree n children rest) (under 0 p)
+          ContainsAddress addr base n × Open addr (child_base base n) children p →
+          Open addr base (tree n children rest) (under 0 p)
       from c (top i) u = subst (λ k. Holds addr base (tree n children rest) (top k)) (sym u) (holds-first.1 c.0)
       from c (under i q) u =
           subst

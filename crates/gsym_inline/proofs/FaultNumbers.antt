@@ -24,15 +24,17 @@ use Rattle.gsym_inline.specs.Examples.{TreeExamples}
 use Rattle.gsym_inline.specs.FaultExamples.{FaultNumbers}
 
 pub fault_numbers : FaultNumbers
-unfolding byte_front u32_front u8_at u32_at digits unsigned unsigned_at in_range any_in first_off range_at ranges_at rest_at past_ranges
-    rest_head node_head head_at judged_range judged_ranges judged_rest judged_node judged_at past_node then_skip skip_within
-    skip_list with_frame open_node closed_node walk_from then_walk walk_within walk_list walk_node block_of
+unfolding byte_front u32_front u8_at u32_at digits unsigned unsigned_at in_range any_in first_off range_at ranges_at
+    rest_at past_ranges rest_head node_head head_at judged_range judged_ranges judged_rest judged_node judged_at
+    past_node then_skip skip_within skip_list with_frame open_node closed_node walk_from then_walk walk_within walk_list
+    walk_node block_of
 fault_numbers = refl
 
 pub tree_examples : TreeExamples
-unfolding byte_front u32_front u8_at u32_at digits unsigned unsigned_at in_range any_in first_off range_at ranges_at rest_at past_ranges
-    rest_head node_head head_at judged_range judged_ranges judged_rest judged_node judged_at past_node then_skip skip_within
-    skip_list with_frame open_node closed_node walk_from then_walk walk_within walk_list walk_node block_of
+unfolding byte_front u32_front u8_at u32_at digits unsigned unsigned_at in_range any_in first_off range_at ranges_at
+    rest_at past_ranges rest_head node_head head_at judged_range judged_ranges judged_rest judged_node judged_at
+    past_node then_skip skip_within skip_list with_frame open_node closed_node walk_from then_walk walk_within walk_list
+    walk_node block_of
 tree_examples = record {
   base_of_root = refl;
   root_alone = refl;

@@ -1,6 +1,9 @@
--- A block that doesn't read is refused with the first fault in reading order (RULES, "Refusal numbers" and "Inline tree").
+-- A block that doesn't read is refused with the first fault in reading order (RULES, "Refusal numbers" and "Inline
+-- tree").
 -- Assumes nothing.
-use Rattle.std.proofs.Common.{Ok, Err, ℕ, ◌<◌, ◌≤◌, Bool, true, false, List, [], ◌∷◌, ◌++◌, ◌↔◌, ◌≡◌, refl, sym, ap, subst, ◌∙◌, leb, eqb, cond, length, append_assoc, append-nil, length-append, arith, eq-eqb}
+use Rattle.std.proofs.Common.{Ok, Err, ℕ, ◌<◌, ◌≤◌, Bool, true, false, List, [], ◌∷◌, ◌++◌, ◌↔◌, ◌≡◌, refl, sym, ap}
+use Rattle.std.proofs.Common.{subst, ◌∙◌, leb, eqb, cond, length, append_assoc, append-nil, length-append, arith}
+use Rattle.std.proofs.Common.{eq-eqb}
 use Rattle.std.proofs.lemmas.Bool.{leb-true, leb-false}
 use Rattle.gsym_reads.specs.Steps.{◌>>◌, need}
 use Rattle.gsym_types.specs.declared.InlineFrame.{InlineFrame}
@@ -12,7 +15,8 @@ use Rattle.gsym_inline.specs.Reads.{Reads}
 use Rattle.gsym_inline.specs.Steps.{Step, read, unread, stands, starts, ends, calls, opens, steps_of}
 use Rattle.gsym_inline.specs.FirstFault.{frames_among, Refuses, NoFault, FirstFault}
 use Rattle.gsym_types.specs.declared.Refusal.{Refusal}
-use Rattle.gsym_types.specs.declared.Refusal.TheVariants.{UnreadInline, InlineSumTooLarge, CallFileTooLarge, TooDeep, TooManyFrames}
+use Rattle.gsym_types.specs.declared.Refusal.TheVariants.{UnreadInline, InlineSumTooLarge, CallFileTooLarge, TooDeep}
+use Rattle.gsym_types.specs.declared.Refusal.TheVariants.{TooManyFrames}
 use Rattle.gsym_inline.proofs.Numbers.{never}
 use Rattle.gsym_inline.proofs.Listing.{lists, reads, refuses}
 use Rattle.gsym_inline.proofs.StepsHeads.{no, outcome}
@@ -330,7 +334,8 @@ module _ (symbol addr room : ℕ) (bytes : List ℕ) where
 
   -- no second refusal is that of the first fault
   pub first_unique :
-      (e n : Refusal) → FirstFault room (steps_of symbol addr bytes) e → FirstFault room (steps_of symbol addr bytes) n →
+      (e n : Refusal) → FirstFault room (steps_of symbol addr bytes) e →
+      FirstFault room (steps_of symbol addr bytes) n →
       e ≡ n
   first_unique e n E N =
       let z : no e ≡ no n = sym ((first-fault e).1 E) ∙ (first-fault n).1 N in

@@ -18,7 +18,8 @@ pub bind_same :
 bind_same (Ok x) f g h = h x refl
 bind_same (Err e) f g h = refl
 
-pub then_ok : {E A B : Type 0} (r : Result A E) (q : Result B E) (y : B) → (r >> q) ≡ Ok y → (x : A) × (r ≡ Ok x) × (q ≡ Ok y)
+pub then_ok :
+    {E A B : Type 0} (r : Result A E) (q : Result B E) (y : B) → (r >> q) ≡ Ok y → (x : A) × (r ≡ Ok x) × (q ≡ Ok y)
 then_ok (Ok x) q y e = (x, refl, e)
 then_ok (Err d) q y e = absurd cc
 

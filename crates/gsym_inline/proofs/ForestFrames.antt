@@ -1,6 +1,7 @@
 -- A tree that is there in full gives its frames exactly where it fits and there is room.
 -- Assumes nothing.
-use Rattle.std.proofs.Common.{Ok, Result, ℕ, ◌+◌, ◌≤◌, List, [], ◌++◌, append_assoc, append-nil, Bool, true, false, not, ◌≡◌, refl, sym, ap, ◌∙◌, leb, length, length-append, arith, le-leb, if◌then◌else◌}
+use Rattle.std.proofs.Common.{Ok, Result, ℕ, ◌+◌, ◌≤◌, List, [], ◌++◌, append_assoc, append-nil, Bool, true, false, not}
+use Rattle.std.proofs.Common.{◌≡◌, refl, sym, ap, ◌∙◌, leb, length, length-append, arith, le-leb, if◌then◌else◌}
 use Rattle.std.proofs.lemmas.Bool.{leb-true, not-true}
 use Rattle.gsym_reads.specs.Steps.{◌>>=◌, ◌>>◌, need}
 use Rattle.gsym_reads.proofs.Steps.{bind_ok, need_ok, ok_is}
@@ -14,7 +15,7 @@ use Rattle.gsym_inline.specs.Walk.{counted, with_frame}
 use Rattle.gsym_inline.proofs.Forests.{deep_in, node_fits, below_node, forest_frames}
 use Rattle.gsym_inline.specs.declared.head.Fault.{Fault}
 use Rattle.gsym_inline.specs.declared.head.Fault.TheVariants.{Level, Sum, CallFile, Room}
-use Rattle.gsym_inline.specs.View.{View}
+use Rattle.gsym_inline.specs.Inherited.{Inherited}
 use Rattle.gsym_inline.proofs.Numbers.{never}
 use Rattle.gsym_inline.proofs.Conditions.{Levels, levels-fit, levels_sound}
 use Rattle.gsym_inline.proofs.Trees.{node_frames}
@@ -22,20 +23,20 @@ use Rattle.gsym_inline.proofs.Trees.{node_frames}
 -- ---- what fits gives frames
 
 put-fine :
-    (c : View) (f : InlineFrame) (acc : List InlineFrame) → length (acc ++ counted f) ≤ c.room →
+    (c : Inherited) (f : InlineFrame) (acc : List InlineFrame) → length (acc ++ counted f) ≤ c.room →
     with_frame c.room f acc ≡ Ok (acc ++ counted f)
 unfolding with_frame
 put-fine c f acc le = rw (le-leb (length (acc ++ counted f)) c.room le) refl
 
 fits-fine :
-    (c : View) (self : Node) → c.level ≤ 64 → any_large c.base self.ranges ≡ false → self.file ≤ most_file →
+    (c : Inherited) (self : Node) → c.level ≤ 64 → any_large c.base self.ranges ≡ false → self.file ≤ most_file →
     node_fits c self ≡ Ok tt
 unfolding node_fits
 fits-fine c self l s f = rw (le-leb c.level 64 l, s, le-leb self.file most_file f) refl
 
 -- one node: its own frame and those below it
 node-are :
-    (c : View) (self : Node) (children : Forest) (acc : List InlineFrame) (w : Bool) →
+    (c : Inherited) (self : Node) (children : Forest) (acc : List InlineFrame) (w : Bool) →
     (w ≡ true → (a : List InlineFrame) → length (a ++ frames c.addr (child_base c.base self) children) ≤ c.room →
     forest_frames (below_node c self) children a ≡ Ok (a ++ frames c.addr (child_base c.base self) children)) →
     deep_in (c.level + 1) children ≡ false →
@@ -57,7 +58,8 @@ node-are c self children acc true ih d le =
 node-are c self children acc false ih d le = rw d (ap Ok (sym (append-nil acc)))
 
 pub frames-fit :
-    (t : Forest) (c : View) (acc : List InlineFrame) → Fits c.addr c.base t → Levels c.level t → length (acc ++ frames c.addr c.base t) ≤ c.room →
+    (t : Forest) (c : Inherited) (acc : List InlineFrame) → Fits c.addr c.base t → Levels c.level t →
+    length (acc ++ frames c.addr c.base t) ≤ c.room →
     forest_frames c t acc ≡ Ok (acc ++ frames c.addr c.base t)
 unfolding forest_frames frames Fits Levels
 frames-fit none c acc F L le = ap Ok (sym (append-nil acc))
@@ -83,7 +85,8 @@ pub record Fine (room : ℕ) (acc fs all : List InlineFrame) : Type 0 where
   pub few : length all ≤ room
 
 put-sound :
-    (c : View) (f : InlineFrame) (acc b : List InlineFrame) → with_frame c.room f acc ≡ Ok b → Fine c.room acc (counted f) b
+    (c : Inherited) (f : InlineFrame) (acc b : List InlineFrame) → with_frame c.room f acc ≡ Ok b →
+    Fine c.room acc (counted f) b
 unfolding with_frame
 put-sound c f acc b p =
     let n = need_ok (leb (length (acc ++ counted f)) c.room) Room (Ok (acc ++ counted f)) b p in
@@ -98,13 +101,13 @@ fine-then {room} {acc} {fs} {a} {gs} {b} F G = record {
 }
 
 -- a tree that gives frames: it fits, and these are its frames
-pub record Sound (c : View) (t : Forest) (acc b : List InlineFrame) : Type 0 where
+pub record Sound (c : Inherited) (t : Forest) (acc b : List InlineFrame) : Type 0 where
   pub fits : Fits c.addr c.base t
   pub levels : Levels c.level t
   pub frames-are : Fine c.room acc (frames c.addr c.base t) b
 
 fits-sound :
-    (c : View) (self : Node) (u : Unit {0}) → node_fits c self ≡ Ok u →
+    (c : Inherited) (self : Node) (u : Unit {0}) → node_fits c self ≡ Ok u →
     (c.level ≤ 64) × (any_large c.base self.ranges ≡ false) × (self.file ≤ most_file)
 unfolding node_fits
 fits-sound c self u e =
@@ -117,13 +120,13 @@ fits-sound c self u e =
     file false e q = absurd cc
 
 -- one node, once its own tests are passed
-record NodeSound (c : View) (self : Node) (children : Forest) (w : Bool) (acc b : List InlineFrame) : Type 0 where
+record NodeSound (c : Inherited) (self : Node) (children : Forest) (w : Bool) (acc b : List InlineFrame) : Type 0 where
   fits : w ≡ true → Fits c.addr (child_base c.base self) children
   levels : Levels (c.level + 1) children
   frames-are : Fine c.room acc (if w then named self ++ frames c.addr (child_base c.base self) children else []) b
 
 node-sound :
-    (c : View) (self : Node) (children : Forest) (acc b : List InlineFrame) (w : Bool) →
+    (c : Inherited) (self : Node) (children : Forest) (acc b : List InlineFrame) (w : Bool) →
     ((a b : List InlineFrame) → length a ≤ c.room → forest_frames (below_node c self) children a ≡ Ok b →
     Sound (below_node c self) children a b) →
     length acc ≤ c.room →
@@ -151,7 +154,7 @@ node-sound c self children acc b false ih le p =
     }
 
 pub frames-sound :
-    (t : Forest) (c : View) (acc b : List InlineFrame) → length acc ≤ c.room → forest_frames c t acc ≡ Ok b →
+    (t : Forest) (c : Inherited) (acc b : List InlineFrame) → length acc ≤ c.room → forest_frames c t acc ≡ Ok b →
     Sound c t acc b
 unfolding forest_frames frames Fits Levels
 frames-sound none c acc b le p =

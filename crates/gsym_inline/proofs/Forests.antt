@@ -29,7 +29,7 @@ use Rattle.gsym_inline.specs.Frames.{any_in, child_base, frame_of}
 use Rattle.gsym_inline.specs.Walk.{with_frame, below}
 use Rattle.gsym_inline.specs.declared.head.Fault.{Fault}
 use Rattle.gsym_inline.specs.declared.head.Fault.TheVariants.{Level, Sum, CallFile}
-use Rattle.gsym_inline.specs.View.{View}
+use Rattle.gsym_inline.specs.Inherited.{Inherited}
 
 -- a range whose start or end is above the largest address
 unfoldable pub too_large : ℕ → Range → Bool
@@ -61,18 +61,18 @@ deep_in level (tree self children rest) =
     if nat_le level deepest_level then (if deep_in (level + 1) children then true else deep_in level rest) else true
 
 -- a judged node: its level (13), its sums (11), its call file (12)
-unfoldable pub node_fits : View → Node → Result (Unit {0}) Fault
+unfoldable pub node_fits : Inherited → Node → Result (Unit {0}) Fault
 node_fits c self = do
   need (nat_le c.level deepest_level) Level
   need (not (any_large c.base self.ranges)) Sum
   need (nat_le self.file most_file) CallFile
 
 -- the context of a node's children
-abbrev pub below_node : View → Node → View
+abbrev pub below_node : Inherited → Node → Inherited
 below_node c self = below c (child_base c.base self)
 
 -- judged nodes, after the frames so far
-unfoldable pub forest_frames : View → Forest → List InlineFrame → Result (List InlineFrame) Fault
+unfoldable pub forest_frames : Inherited → Forest → List InlineFrame → Result (List InlineFrame) Fault
 forest_frames c none acc = Ok acc
 forest_frames c (tree self children rest) acc = do
   node_fits c self

@@ -1,12 +1,13 @@
 -- As many turns as bytes are left, and one, are enough: more change nothing, whether nodes are read, passed over or
 -- judged. So a list of nodes is its first node and then the rest.
 -- Assumes nothing.
-use Rattle.std.proofs.Common.{Ok, Err, Result, ℕ, zero, suc, ◌+◌, ◌-◌, ◌<◌, ◌≤◌, List, Bool, true, false, ◌≡◌, refl, sym, ap, ◌∙◌, eqb, length, arith, if◌then◌else◌}
+use Rattle.std.proofs.Common.{Ok, Err, Result, ℕ, zero, suc, ◌+◌, ◌-◌, ◌<◌, ◌≤◌, List, Bool, true, false, ◌≡◌, refl}
+use Rattle.std.proofs.Common.{sym, ap, ◌∙◌, eqb, length, arith, if◌then◌else◌}
 use Rattle.gsym_reads.specs.Steps.{◌>>=◌}
 use Rattle.gsym_reads.proofs.Steps.{bind_ok, ok_is}
 use Rattle.gsym_types.specs.declared.InlineFrame.{InlineFrame}
 use Rattle.gsym_inline.specs.Tree.{Forest, none, tree}
-use Rattle.gsym_inline.specs.Head.{Found, end, node, found_at, head_at}
+use Rattle.gsym_inline.specs.Head.{EndOrNode, end, node, found_at, head_at}
 use Rattle.gsym_inline.specs.Judge.{judged_at}
 use Rattle.gsym_inline.specs.Skip.{past_node, then_skip, skip_within, skip_list, skip_node}
 use Rattle.gsym_inline.specs.Walk.{
@@ -28,7 +29,7 @@ use Rattle.gsym_inline.specs.declared.head.Head.{Head}
 use Rattle.gsym_inline.specs.declared.judge.JudgedNode.{JudgedNode}
 use Rattle.gsym_inline.specs.declared.head.NodeHead.{NodeHead}
 use Rattle.gsym_inline.specs.declared.head.Head.TheVariants as head
-use Rattle.gsym_inline.specs.View.{View}
+use Rattle.gsym_inline.specs.Inherited.{Inherited}
 use Rattle.gsym_inline.specs.declared.skipping.Next.{Next}
 use Rattle.gsym_inline.specs.declared.skipping.Next.TheVariants as after
 use Rattle.gsym_inline.proofs.Follows.{bind_assoc, bind_same}
@@ -42,7 +43,8 @@ On at len n = (at < n) × (n ≤ len)
 -- a place that is the one after a head, or one that its children lead to
 children-on :
     {E : Type 0} (len : ℕ) (children : ℕ → Result ℕ E) → ((at n : ℕ) → children at ≡ Ok n → On at len n) →
-    (byte at next : ℕ) → On at len next → (b : Bool) → (n : ℕ) → (if b then Ok next else children next) ≡ Ok n → On at len n
+    (byte at next : ℕ) → On at len next → (b : Bool) → (n : ℕ) →
+    (if b then Ok next else children next) ≡ Ok n → On at len n
 children-on len children h byte at next g true n e = let q = ok_is _ _ e in (omega arith, omega arith)
 children-on len children h byte at next g false n e = let q = h next n e in (omega arith, q.1)
 
@@ -58,8 +60,10 @@ module _ (s : List ℕ) where
       by-head h.0 h.1 t.0 t.1 t.2 (skip-next f)
     where
       by-head :
-          (x : Head NodeHead) → head_at s level at ≡ Ok x → (y : Next) → past_node (skip_within f s (level + 1)) x ≡ Ok y →
-          then_skip (skip_within f s level) y ≡ Ok n → ((level at n : ℕ) → skip_within f s level at ≡ Ok n → On at (length s) n) →
+          (x : Head NodeHead) → head_at s level at ≡ Ok x → (y : Next) →
+          past_node (skip_within f s (level + 1)) x ≡ Ok y →
+          then_skip (skip_within f s level) y ≡ Ok n →
+          ((level at n : ℕ) → skip_within f s level at ≡ Ok n → On at (length s) n) →
           On at (length s) n
       by-head (head.End m) q (after.End k) p r ih =
           let g = head-end-next s level at _ refl m q in
@@ -89,7 +93,8 @@ module _ (s : List ℕ) where
       ((if eqb i.children 0 then Ok i.next else x) >>= λ n. Ok (after.Past n)) >>= then_skip (skip_within f s level))
       (same (level + 1) i.next n.0 n.1)
       ∙ by-children (if eqb i.children 0 then Ok i.next else skip_within g s (level + 1) i.next)
-      (λ m e. children-on (length s) (skip_within g s (level + 1)) (skip-next g (level + 1)) i.children at i.next (n.0, n.1)
+      (λ m e. children-on (length s) (skip_within g s (level + 1))
+      (skip-next g (level + 1)) i.children at i.next (n.0, n.1)
       (eqb i.children 0) m e)
     where
       by-children :
@@ -115,7 +120,8 @@ module _ (s : List ℕ) where
   skip_step level at =
       let f = length s in
       bind_same (head_at s level at) _ _
-      (λ x q. skip-from f (suc f) level at (λ level n lt le. skip-fuel f (suc f) level n (omega arith) (omega arith)) x q)
+      (λ x q. skip-from f (suc f) level at
+      (λ level n lt le. skip-fuel f (suc f) level n (omega arith) (omega arith)) x q)
       ∙ sym (bind_assoc (head_at s level at) (past_node (skip_within (suc f) s (level + 1)))
       (then_skip (skip_within (suc f) s level)))
 
@@ -136,9 +142,9 @@ module _ (s : List ℕ) where
   -- what was judged, and all below it
   from-next :
       (f : ℕ) →
-      ((c : View) (at : ℕ) (acc : List InlineFrame) (p : ℕ × List InlineFrame) → walk_within f s c at acc ≡ Ok p →
+      ((c : Inherited) (at : ℕ) (acc : List InlineFrame) (p : ℕ × List InlineFrame) → walk_within f s c at acc ≡ Ok p →
       On at (length s) p.0) →
-      (c : View) (at : ℕ) (acc : List InlineFrame) (v : Head JudgedNode) → judged_at c s at ≡ Ok v →
+      (c : Inherited) (at : ℕ) (acc : List InlineFrame) (v : Head JudgedNode) → judged_at c s at ≡ Ok v →
       (o : Next × List InlineFrame) →
       walk_from (walk_within f s) (skip_within f s (c.level + 1)) c acc v ≡ Ok o → NextOn at (length s) o.0
   unfolding walk_from open_node closed_node
@@ -152,7 +158,8 @@ module _ (s : List ℕ) where
       by-children :
           (b : Bool) (fs : List InlineFrame) (p : ℕ × List InlineFrame) →
           (if b then Ok (i.next, fs) else walk_within f s (below c i.base) i.next fs) ≡ Ok p → On at (length s) p.0
-      by-children true fs p r = let z : i.next ≡ p.0 = ap (λ p. p.0) (ok_is _ _ r) in (omega (arith, g.0), omega (arith, g.1))
+      by-children true fs p r =
+          let z : i.next ≡ p.0 = ap (λ p. p.0) (ok_is _ _ r) in (omega (arith, g.0), omega (arith, g.1))
       by-children false fs p r = let a = ih (below c i.base) i.next fs p r in (omega (arith, g.0, a.0), a.1)
 
       by-inside :
@@ -160,21 +167,24 @@ module _ (s : List ℕ) where
           (if b
           then (with_frame c.room i.frame acc >>= λ fs.
           over (if eqb i.children 0 then Ok (i.next, fs) else walk_within f s (below c i.base) i.next fs))
-          else ((if eqb i.children 0 then Ok i.next else skip_within f s (c.level + 1) i.next) >>= λ n. Ok (after.Past n, acc)))
+          else ((if eqb i.children 0 then Ok i.next else skip_within f s (c.level + 1) i.next)
+          >>= λ n. Ok (after.Past n, acc)))
           ≡ Ok o → NextOn at (length s) o.0
       by-inside true r =
           let p = bind_ok (with_frame c.room i.frame acc) _ o r in
-          let k = bind_ok (if eqb i.children 0 then Ok (i.next, p.0) else walk_within f s (below c i.base) i.next p.0) _ o p.2 in
+          let k = bind_ok (if eqb i.children 0 then Ok (i.next, p.0) else walk_within f s (below c i.base) i.next p.0)
+          _ o p.2 in
           let a = by-children (eqb i.children 0) p.0 k.0 k.1 in
           rw (← ok_is _ _ k.2) a
       by-inside false r =
           let n = bind_ok (if eqb i.children 0 then Ok i.next else skip_within f s (c.level + 1) i.next) _ o r in
-          let a = children-on (length s) (skip_within f s (c.level + 1)) (skip-next s f (c.level + 1)) i.children at i.next g
+          let a = children-on (length s) (skip_within f s (c.level + 1))
+          (skip-next s f (c.level + 1)) i.children at i.next g
           (eqb i.children 0) n.0 n.1 in
           rw (← ok_is _ _ n.2) a
 
   walk-next :
-      (f : ℕ) (c : View) (at : ℕ) (acc : List InlineFrame) (p : ℕ × List InlineFrame) →
+      (f : ℕ) (c : Inherited) (at : ℕ) (acc : List InlineFrame) (p : ℕ × List InlineFrame) →
       walk_within f s c at acc ≡ Ok p → On at (length s) p.0
   unfolding walk_within then_walk
   walk-next zero c at acc p e = absurd cc
@@ -194,8 +204,8 @@ module _ (s : List ℕ) where
 
   -- the same with more turns, for what was judged
   from-same :
-      (f g : ℕ) (c : View) (at : ℕ) (acc : List InlineFrame) → length s - at ≤ f → length s - at ≤ g →
-      ((c : View) (n : ℕ) (fs : List InlineFrame) → at < n → n ≤ length s →
+      (f g : ℕ) (c : Inherited) (at : ℕ) (acc : List InlineFrame) → length s - at ≤ f → length s - at ≤ g →
+      ((c : Inherited) (n : ℕ) (fs : List InlineFrame) → at < n → n ≤ length s →
       walk_within f s c n fs ≡ walk_within g s c n fs) →
       (v : Head JudgedNode) → judged_at c s at ≡ Ok v →
       walk_from (walk_within f s) (skip_within f s (c.level + 1)) c acc v
@@ -212,11 +222,13 @@ module _ (s : List ℕ) where
           (if b
           then (with_frame c.room i.frame acc >>= λ fs.
           over (if eqb i.children 0 then Ok (i.next, fs) else walk_within f s (below c i.base) i.next fs))
-          else ((if eqb i.children 0 then Ok i.next else skip_within f s (c.level + 1) i.next) >>= λ n. Ok (after.Past n, acc)))
+          else ((if eqb i.children 0 then Ok i.next else skip_within f s (c.level + 1) i.next)
+          >>= λ n. Ok (after.Past n, acc)))
           ≡ (if b
           then (with_frame c.room i.frame acc >>= λ fs.
           over (if eqb i.children 0 then Ok (i.next, fs) else walk_within g s (below c i.base) i.next fs))
-          else ((if eqb i.children 0 then Ok i.next else skip_within g s (c.level + 1) i.next) >>= λ n. Ok (after.Past n, acc)))
+          else ((if eqb i.children 0 then Ok i.next else skip_within g s (c.level + 1) i.next)
+          >>= λ n. Ok (after.Past n, acc)))
       by-inside true =
           bind_same (with_frame c.room i.frame acc) _ _
           (λ fs e. ap (λ (x : Places). over (if eqb i.children 0 then Ok (i.next, fs) else x))
@@ -226,7 +238,7 @@ module _ (s : List ℕ) where
           (skip-fuel s f g (c.level + 1) i.next (omega (arith, on.0, on.1)) (omega (arith, on.0, on.1)))
 
   then-same :
-      (f g : ℕ) (c : View) (at : ℕ) →
+      (f g : ℕ) (c : Inherited) (at : ℕ) →
       ((n : ℕ) (fs : List InlineFrame) → at < n → n ≤ length s → walk_within f s c n fs ≡ walk_within g s c n fs) →
       (x : Next) (fs : List InlineFrame) → NextOn at (length s) x →
       then_walk (walk_within f s c) (x, fs) ≡ then_walk (walk_within g s c) (x, fs)
@@ -236,8 +248,8 @@ module _ (s : List ℕ) where
 
   -- what was judged, and the list after it
   list-same :
-      (f g : ℕ) (c : View) (at : ℕ) (acc : List InlineFrame) → length s - at ≤ f → length s - at ≤ g →
-      ((c : View) (n : ℕ) (fs : List InlineFrame) → at < n → n ≤ length s →
+      (f g : ℕ) (c : Inherited) (at : ℕ) (acc : List InlineFrame) → length s - at ≤ f → length s - at ≤ g →
+      ((c : Inherited) (n : ℕ) (fs : List InlineFrame) → at < n → n ≤ length s →
       walk_within f s c n fs ≡ walk_within g s c n fs) →
       (v : Head JudgedNode) → judged_at c s at ≡ Ok v →
       (walk_from (walk_within f s) (skip_within f s (c.level + 1)) c acc v >>= then_walk (walk_within f s c))
@@ -248,7 +260,7 @@ module _ (s : List ℕ) where
       (λ o e. then-same f g c at (same c) o.0 o.1 (from-next g (walk-next g) c at acc v q o e))
 
   pub walk-fuel :
-      (f g : ℕ) (c : View) (at : ℕ) (acc : List InlineFrame) → length s - at < f → length s - at < g →
+      (f g : ℕ) (c : Inherited) (at : ℕ) (acc : List InlineFrame) → length s - at < f → length s - at < g →
       walk_within f s c at acc ≡ walk_within g s c at acc
   unfolding walk_within
   walk-fuel zero g c at acc hf hg = absurd (omega arith)
@@ -260,7 +272,7 @@ module _ (s : List ℕ) where
 
   -- a list of judged nodes is its first node, and then the rest
   pub walk_step :
-      (c : View) (at : ℕ) (acc : List InlineFrame) →
+      (c : Inherited) (at : ℕ) (acc : List InlineFrame) →
       walk_list s c at acc ≡ (walk_node s c at acc >>= then_walk (walk_list s c))
   unfolding walk_list walk_node walk_within skip_list
   walk_step c at acc =
@@ -268,7 +280,8 @@ module _ (s : List ℕ) where
       bind_same (judged_at c s at) _ _
       (λ v q. list-same f (suc f) c at acc (omega arith) (omega arith)
       (λ c n fs lt le. walk-fuel f (suc f) c n fs (omega arith) (omega arith)) v q)
-      ∙ sym (bind_assoc (judged_at c s at) (walk_from (walk_within (suc f) s) (skip_within (suc f) s (c.level + 1)) c acc)
+      ∙ sym (bind_assoc (judged_at c s at)
+      (walk_from (walk_within (suc f) s) (skip_within (suc f) s (c.level + 1)) c acc)
       (then_walk (walk_within (suc f) s c)))
 
 -- ---- the tree
@@ -290,9 +303,10 @@ module _ (s : List ℕ) where
       by-stand x.0 (found-next s at x.0 x.1) x.2 (read-next f)
     where
       by-stand :
-          (x : Found) → FoundGoes at (length s) x → read_from (read_within f s) (read_within f s) x ≡ Ok r →
+          (x : EndOrNode) → FoundGoes at (length s) x → read_from (read_within f s) (read_within f s) x ≡ Ok r →
           ((at : ℕ) (r : Forest × ℕ) → read_within f s at ≡ Ok r → On at (length s) r.1) → On at (length s) r.1
-      by-stand (end n) g q ih = let m : n ≡ r.1 = ap (λ p. p.1) (ok_is _ _ q) in (omega (arith, g.0), omega (arith, g.1))
+      by-stand (end n) g q ih =
+          let m : n ≡ r.1 = ap (λ p. p.1) (ok_is _ _ q) in (omega (arith, g.0), omega (arith, g.1))
       by-stand (node self byte next) g q ih =
           let k = bind_ok (below_read (read_within f s) byte next) (whole self (read_within f s)) r q in
           let a = read-children (read_within f s) ih at next g (eqb byte 0) k.0 k.1 in
@@ -303,7 +317,7 @@ module _ (s : List ℕ) where
 
   read-same :
       (f g at : ℕ) → ((n : ℕ) → at < n → n ≤ length s → read_within f s n ≡ read_within g s n) → (go go' : ℕ → Read) →
-      ((n : ℕ) → at < n → n ≤ length s → go n ≡ go' n) → (x : Found) → FoundGoes at (length s) x →
+      ((n : ℕ) → at < n → n ≤ length s → go n ≡ go' n) → (x : EndOrNode) → FoundGoes at (length s) x →
       read_from (read_within f s) go x ≡ read_from (read_within g s) go' x
   unfolding read_from
   read-same f g at same go go' on (end n) h = refl
@@ -328,5 +342,6 @@ module _ (s : List ℕ) where
   unfolding tree_of
   tree-fuel f h =
       bind_same (found_at s 0) _ _
-      (λ x q. read-same f (suc (length s)) 0 (λ n lt le. fuel f (suc (length s)) n (omega arith) (omega arith)) (λ n. Ok (none, n))
+      (λ x q. read-same f (suc (length s)) 0 (λ n lt le. fuel f (suc (length s)) n (omega arith) (omega arith))
+      (λ n. Ok (none, n))
       (λ n. Ok (none, n)) (λ n lt le. refl) x (found-next s 0 x q))

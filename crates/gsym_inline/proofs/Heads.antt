@@ -1,7 +1,8 @@
--- A head as it is judged, and as a caller gets it, beside what stands at the place: where that is there in full, its own
--- faults decide; where it isn't, there is a fault.
+-- A head as it is judged, and as a caller gets it, beside what stands at the place: where that is there in full, its
+-- own faults decide; where it isn't, there is a fault.
 -- Assumes nothing.
-use Rattle.std.proofs.Common.{Ok, Err, Result, ℕ, zero, suc, ◌+◌, min, List, ◌∷◌, Bool, true, false, not, ◌≡◌, refl, ⊎_elim, leb, eqb, ◌<◌, ◌≤◌, le-leb, lt-ltb, le-ltb, if◌then◌else◌}
+use Rattle.std.proofs.Common.{Ok, Err, Result, ℕ, zero, suc, ◌+◌, min, List, ◌∷◌, Bool, true, false, not, ◌≡◌, refl}
+use Rattle.std.proofs.Common.{⊎_elim, leb, eqb, ◌<◌, ◌≤◌, le-leb, lt-ltb, le-ltb, if◌then◌else◌}
 use Rattle.std.proofs.lemmas.Bool.{cases_lt, lt-leb}
 use Rattle.std.specs.Prelude.{is_err}
 use Rattle.gsym_reads.specs.Steps.{◌>>=◌, ◌>>◌, need, told}
@@ -13,7 +14,8 @@ use Rattle.gsym_inline.specs.Tree.{Range, Node}
 use Rattle.gsym_inline.specs.Frames.{any_in, first_off, child_base, frame, frame_of}
 use Rattle.gsym_inline.specs.Limits.{most_address, most_file}
 use Rattle.gsym_inline.proofs.Forests.{too_large, any_large}
-use Rattle.gsym_inline.specs.Head.{range_at, ranges_at, Rest, rest_at, whole_at, Found, end, node, found_at, past_ranges, rest_head, node_head, head_at}
+use Rattle.gsym_inline.specs.Head.{range_at, ranges_at, Rest, rest_at, whole_at, EndOrNode, end, node, found_at}
+use Rattle.gsym_inline.specs.Head.{past_ranges, rest_head, node_head, head_at}
 use Rattle.gsym_inline.specs.Judge.{judged_range, judged_ranges, judged_rest, judged_node, judged_at}
 use Rattle.gsym_inline.proofs.Forests.{node_fits}
 use Rattle.gsym_inline.specs.declared.head.Fault.{Fault}
@@ -21,7 +23,7 @@ use Rattle.gsym_inline.specs.declared.head.Fault.TheVariants.{Unread, Level, Sum
 use Rattle.gsym_inline.specs.declared.head.NodeHead.{NodeHead}
 use Rattle.gsym_inline.specs.declared.head.Head.{Head}
 use Rattle.gsym_inline.specs.declared.head.Head.TheVariants as head
-use Rattle.gsym_inline.specs.View.{View}
+use Rattle.gsym_inline.specs.Inherited.{Inherited}
 use Rattle.gsym_inline.specs.declared.judge.JudgedNode.{JudgedNode}
 use Rattle.gsym_inline.proofs.Ranges.{put_front}
 use Rattle.gsym_inline.proofs.Follows.{Follows, by_told, by_given, by_step, by_first, by_test}
@@ -92,7 +94,8 @@ module _ (base : ℕ) where
   front-is r n read judge h y true z e = rw e (front-large r z (read n))
   front-is r n read judge h y false z e = rw e (front-fits r z (read n) (judge n) (h n))
 
-  pub ranges-is : (count : ℕ) (s : List ℕ) (at : ℕ) → Follows RangesJudged (ranges_at count s at) (judged_ranges base count s at)
+  pub ranges-is :
+      (count : ℕ) (s : List ℕ) (at : ℕ) → Follows RangesJudged (ranges_at count s at) (judged_ranges base count s at)
   unfolding ranges_at judged_ranges any_large
   ranges-is zero s at = refl
   ranges-is (suc count) s at =
@@ -130,7 +133,14 @@ rest-is start inside s at =
         Follows (RestJudged start inside)
         (do
           (line, next) ← x
-          Ok (record { children = children; name_at = at + 1; name = name; file = file; line = min 4294967295 line; next = next }))
+          Ok (record {
+            children = children;
+            name_at = at + 1;
+            name = name;
+            file = file;
+            line = min 4294967295 line;
+            next = next;
+          }))
         (do
           need b CallFile
           (line, next) ← told Unread x
@@ -149,7 +159,7 @@ rest-is start inside s at =
 -- ---- a node
 
 -- a node that is there in full, judged
-abbrev pub judged_of : View → Node × ℕ × ℕ → JudgedNode
+abbrev pub judged_of : Inherited → Node × ℕ × ℕ → JudgedNode
 judged_of c w = record {
   next = w.2;
   base = child_base c.base w.0;
@@ -158,7 +168,7 @@ judged_of c w = record {
   frame = frame_of w.0;
 }
 
-NodeJudged : View → Node × ℕ × ℕ → Result JudgedNode Fault → Type 0
+NodeJudged : Inherited → Node × ℕ × ℕ → Result JudgedNode Fault → Type 0
 NodeJudged c w r = r ≡ (node_fits c w.0 >> Ok (judged_of c w))
 
 node-of : List Range → Rest → Node × ℕ × ℕ
@@ -166,8 +176,9 @@ node-of rs t = (record { ranges = rs; name = t.name; file = t.file; line = t.lin
 
 -- one of the first two tests refuses it
 node-refused :
-    (c : View) (rs : List Range) (f : Fault) →
-    ((file : ℕ) → (need (leb c.level 64) Level >> (need (not (any_large c.base rs)) Sum >> need (leb file most_file) CallFile)) ≡ Err f) →
+    (c : Inherited) (rs : List Range) (f : Fault) →
+    ((file : ℕ) → (need (leb c.level 64) Level
+    >> (need (not (any_large c.base rs)) Sum >> need (leb file most_file) CallFile)) ≡ Err f) →
     (x : Result Rest Cause) → Follows (NodeJudged c) (x >>= λ t. Ok (node-of rs t)) (Err f)
 unfolding node-of NodeJudged node_fits
 node-refused c rs f e (Ok t) = rw (e t.file) refl
@@ -177,7 +188,7 @@ always : {A C E : Type 0} (D : Type 0) (f : E) (x : Result A C) → Follows {D =
 always D f (Ok a) = refl
 always D f (Err k) = refl
 
-module _ (c : View) (s : List ℕ) (z : leb c.level 64 ≡ true) where
+module _ (c : Inherited) (s : List ℕ) (z : leb c.level 64 ≡ true) where
   node-large :
       (rs : List Range) (m : ℕ) (b : Bool) → any_large c.base rs ≡ b →
       (y : Result (List Range × ℕ) Fault) → y ≡ (if b then Err Sum else Ok (rs, m)) →
@@ -192,7 +203,8 @@ module _ (c : View) (s : List ℕ) (z : leb c.level 64 ≡ true) where
       (rest-is start inside s m) (λ t q. rw (z, l) q))
 
 node-is :
-    (c : View) (s : List ℕ) (count at : ℕ) → Follows (NodeJudged c) (whole_at s count at) (judged_node c s count at)
+    (c : Inherited) (s : List ℕ) (count at : ℕ) →
+    Follows (NodeJudged c) (whole_at s count at) (judged_node c s count at)
 unfolding whole_at judged_node node-of
 node-is c s count at = by-level (leb c.level 64) refl
   where
@@ -206,25 +218,26 @@ node-is c s count at = by-level (leb c.level 64) refl
         (ranges-is c.base count s at) (λ p y e. node-large c s z p.0 p.1 (any_large c.base p.0) refl y e)
     by-level false z =
         by_first (NodeJudged c) (λ _ y. y ≡ Err Level) (ranges_at count s at) (Err Level) _
-        (always JudgedNode Level (ranges_at count s at)) (λ p e. node-refused c p.0 Level (λ file. rw z refl) (rest_at s p.1))
+        (always JudgedNode Level (ranges_at count s at))
+        (λ p e. node-refused c p.0 Level (λ file. rw z refl) (rest_at s p.1))
 
 -- ---- what stands at a place
 
 -- as judged
-abbrev pub judge_of : View → Found → Result (Head JudgedNode) Fault
+abbrev pub judge_of : Inherited → EndOrNode → Result (Head JudgedNode) Fault
 judge_of c (end n) = Ok (head.End n)
 judge_of c (node self children next) = node_fits c self >> Ok (head.Node (judged_of c (self, children, next)))
 
-abbrev pub FoundJudged : View → Found → Result (Head JudgedNode) Fault → Type 0
+abbrev pub FoundJudged : Inherited → EndOrNode → Result (Head JudgedNode) Fault → Type 0
 FoundJudged c x r = r ≡ judge_of c x
 
 head-of :
-    (c : View) (w : Node × ℕ × ℕ) (x : Result (Unit {0}) Fault) →
+    (c : Inherited) (w : Node × ℕ × ℕ) (x : Result (Unit {0}) Fault) →
     ((x >> Ok (judged_of c w)) >>= λ i. Ok (head.Node i)) ≡ (x >> Ok (head.Node (judged_of c w)))
 head-of c w (Ok u) = refl
 head-of c w (Err f) = refl
 
-pub judged-is : (c : View) (s : List ℕ) (at : ℕ) → Follows (FoundJudged c) (found_at s at) (judged_at c s at)
+pub judged-is : (c : Inherited) (s : List ℕ) (at : ℕ) → Follows (FoundJudged c) (found_at s at) (judged_at c s at)
 unfolding found_at judged_at NodeJudged
 judged-is c s at =
     by_told (FoundJudged c) Unread (unsigned_at s at) _ _
@@ -236,7 +249,7 @@ judged-is c s at =
 NodeRead : ℕ → Node × ℕ × ℕ → Result NodeHead Fault → Type 0
 NodeRead level w r = (h : NodeHead) × (r ≡ (need (leb level 64) Level >> Ok h)) × (h.children ≡ w.1) × (h.next ≡ w.2)
 
-abbrev pub FoundRead : ℕ → Found → Result (Head NodeHead) Fault → Type 0
+abbrev pub FoundRead : ℕ → EndOrNode → Result (Head NodeHead) Fault → Type 0
 FoundRead level (end n) r = r ≡ Ok (head.End n)
 FoundRead level (node self children next) r =
     (h : NodeHead) × (r ≡ (need (leb level 64) Level >> Ok (head.Node h))) × (h.children ≡ children) × (h.next ≡ next)
@@ -300,6 +313,7 @@ head-is level s at =
     (λ _. by_step (FoundRead level) (NodeRead level) (whole_at s p.0 p.1) (node_head s level p.0 p.1) _ _
     (head-node s level p.0 p.1) (λ w y e. (e.0, rw e.1 (go e.0 (leb level 64)), e.2, e.3))))
   where
-    go : (h : NodeHead) (d : Bool) → ((need d Level >> Ok h) >>= λ h. Ok (head.Node h)) ≡ (need d Level >> Ok (head.Node h))
+    go : (h : NodeHead) (d : Bool) →
+        ((need d Level >> Ok h) >>= λ h. Ok (head.Node h)) ≡ (need d Level >> Ok (head.Node h))
     go h true = refl
     go h false = refl

@@ -1,6 +1,7 @@
 -- What the call that reads one block lists (RULES, "Inline tree"), from the bytes to the paths of nodes.
 -- Assumes nothing.
-use Rattle.std.proofs.Common.{Ok, Err, Result, IsOk, is_ok, ℕ, suc, ◌≤◌, List, [], ◌↔◌, ◌≡◌, refl, sym, ap, subst, ◌∙◌, length, arith}
+use Rattle.std.proofs.Common.{Ok, Err, Result, IsOk, is_ok, ℕ, suc, ◌≤◌, List, [], ◌↔◌, ◌≡◌, refl, sym, ap, subst, ◌∙◌}
+use Rattle.std.proofs.Common.{length, arith}
 use Rattle.gsym_reads.specs.Steps.{◌>>=◌, told}
 use Rattle.gsym_reads.proofs.Steps.{ok_is}
 use Rattle.gsym_types.specs.declared.InlineFrame.{InlineFrame}
@@ -99,7 +100,8 @@ from-tree :
     ReadsInFull symbol addr room bytes
 from-tree symbol addr room bytes fs (Ok (t, n)) e x q p =
     let c = root_context symbol addr room in
-    let s = frames-sound t c [] fs (omega arith) (from-forest n fs (forest_frames c t []) (ap block_from (sym q) ∙ p)) in
+    let s = frames-sound t c [] fs (omega arith)
+    (from-forest n fs (forest_frames c t []) (ap block_from (sym q) ∙ p)) in
     record {
       forest = t;
       place = n;
@@ -197,7 +199,8 @@ module _ (symbol addr room : ℕ) (bytes : List ℕ) where
 
   -- no second list of frames is one
   pub frames_unique :
-      (fs gs : List InlineFrame) → ListsFrames symbol addr room bytes fs → ListsFrames symbol addr room bytes gs → fs ≡ gs
+      (fs gs : List InlineFrame) → ListsFrames symbol addr room bytes fs →
+      ListsFrames symbol addr room bytes gs → fs ≡ gs
   frames_unique fs gs F G = ok_is _ _ (sym ((block-lists fs).1 F) ∙ (block-lists gs).1 G)
 
 -- ---- and so does the call

@@ -1,18 +1,20 @@
 -- More room changes nothing but 14: a block that is read with less room either has more frames than that, or gives what
 -- it gives with more.
 -- Assumes nothing.
-use Rattle.std.proofs.Common.{Ok, Err, Result, ℕ, zero, suc, ◌+◌, ◌≤◌, Bool, true, false, List, [], ◌++◌, ◌⊎◌, inl, inr, ⊎_elim, ◌≡◌, refl, leb, eqb, length, arith, le-leb, if◌then◌else◌}
+use Rattle.std.proofs.Common.{Ok, Err, Result, ℕ, zero, suc, ◌+◌, ◌≤◌, Bool, true, false, List, [], ◌++◌, ◌⊎◌, inl, inr}
+use Rattle.std.proofs.Common.{⊎_elim, ◌≡◌, refl, leb, eqb, length, arith, le-leb, if◌then◌else◌}
 use Rattle.std.proofs.lemmas.Bool.{leb-true}
 use Rattle.gsym_reads.specs.Steps.{◌>>=◌, ◌>>◌, need}
 use Rattle.gsym_types.specs.declared.InlineFrame.{InlineFrame}
 use Rattle.gsym_inline.specs.Judge.{judged_node, judged_at}
 use Rattle.gsym_inline.specs.Skip.{skip_within, skip_list}
-use Rattle.gsym_inline.specs.Walk.{counted, with_frame, Places, open_node, closed_node, walk_from, then_walk, walk_within, walk_list, walk_node}
+use Rattle.gsym_inline.specs.Walk.{counted, with_frame, Places, open_node, closed_node, walk_from, then_walk}
+use Rattle.gsym_inline.specs.Walk.{walk_within, walk_list, walk_node}
 use Rattle.gsym_types.specs.declared.Refusal.TheVariants.{TooManyFrames}
 use Rattle.gsym_inline.specs.Block.{block_of}
 use Rattle.gsym_inline.specs.declared.head.Fault.{Fault}
 use Rattle.gsym_inline.specs.declared.head.Fault.TheVariants.{Room}
-use Rattle.gsym_inline.specs.View.{View}
+use Rattle.gsym_inline.specs.Inherited.{Inherited}
 use Rattle.gsym_inline.specs.declared.head.Head.{Head}
 use Rattle.gsym_inline.specs.declared.judge.JudgedNode.{JudgedNode}
 use Rattle.gsym_inline.specs.declared.head.Head.TheVariants as head
@@ -36,7 +38,7 @@ or-step x y f g (inl e) h = inl (rw e refl)
 or-step (Ok a) y f g (inr e) h = rw (← e) (h a)
 or-step (Err k) y f g (inr e) h = inr (rw (← e) refl)
 
-abbrev ctx : (level addr base room : ℕ) → View
+abbrev ctx : (level addr base room : ℕ) → Inherited
 ctx level addr base room = record { level = level; addr = addr; base = base; room = room }
 
 module _ (room more : ℕ) (l : room ≤ more) where
@@ -55,7 +57,7 @@ module _ (room more : ℕ) (l : room ≤ more) where
 
   -- what was judged and all below it, with `reads` for a list of judged nodes
   head-room :
-      (reads : View → ℕ → List InlineFrame → Places) (skips : ℕ → Result ℕ Fault) →
+      (reads : Inherited → ℕ → List InlineFrame → Places) (skips : ℕ → Result ℕ Fault) →
       ((level addr base n : ℕ) (acc : List InlineFrame) →
       Or14 (reads (ctx level addr base room) n acc) (reads (ctx level addr base more) n acc)) →
       (level addr base : ℕ) (acc : List InlineFrame) (v : Head JudgedNode) →

@@ -1,6 +1,7 @@
 -- What an equation between two constructors gives, choices, and that what was read at a place lies within the bytes.
 -- Assumes nothing.
-use Rattle.std.proofs.Common.{Some, None, Option, ℕ, ◌+◌, ◌≤◌, Bool, true, false, List, [], ◌∷◌, ◌≡◌, refl, length, drop, length-drop, arith, nat_lt, ltb-false, if◌then◌else◌}
+use Rattle.std.proofs.Common.{Some, None, Option, ℕ, ◌+◌, ◌≤◌, Bool, true, false, List, [], ◌∷◌, ◌≡◌, refl, length}
+use Rattle.std.proofs.Common.{drop, length-drop, arith, nat_lt, ltb-false, if◌then◌else◌}
 use Rattle.gsym_reads.specs.Fronts.{byte_front, u32_front}
 use Rattle.gsym_reads.specs.Answers.{value_of, u8_at, u32_at}
 

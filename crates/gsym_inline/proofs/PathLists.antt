@@ -18,5 +18,7 @@ own_path n = if n.name == 0 then [] else top 0 ∷ []
 unfoldable pub frame_paths : ℕ → ℕ → Forest → List NodePath
 frame_paths addr base none = []
 frame_paths addr base (tree n children rest) =
-    (if any_in addr base n.ranges then own_path n ++ map (under 0) (frame_paths addr (child_base base n) children) else [])
+    (if any_in addr base n.ranges
+    then own_path n ++ map (under 0) (frame_paths addr (child_base base n) children)
+    else [])
     ++ map later (frame_paths addr base rest)

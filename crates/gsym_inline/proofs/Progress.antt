@@ -1,6 +1,7 @@
 -- Where reading goes on after a head: further on, within the bytes; and a node stands on one of 64 levels.
 -- Assumes nothing.
-use Rattle.std.proofs.Common.{Ok, Err, Result, ℕ, zero, suc, ◌+◌, ◌<◌, ◌≤◌, List, Bool, true, false, ◌≡◌, refl, sym, ap, subst, ◌∙◌, leb, eqb, length, arith, if◌then◌else◌}
+use Rattle.std.proofs.Common.{Ok, Err, Result, ℕ, zero, suc, ◌+◌, ◌<◌, ◌≤◌, List, Bool, true, false, ◌≡◌, refl, sym, ap}
+use Rattle.std.proofs.Common.{subst, ◌∙◌, leb, eqb, length, arith, if◌then◌else◌}
 use Rattle.std.proofs.lemmas.Bool.{leb-true}
 use Rattle.gsym_reads.specs.Steps.{◌>>=◌, ◌>>◌, need, given}
 use Rattle.gsym_reads.proofs.Steps.{bind_ok, need_ok, ok_is}
@@ -9,7 +10,9 @@ use Rattle.gsym_leb128.specs.Answers.{unsigned_at}
 use Rattle.gsym_leb128.specs.declared.Cause.TheVariants.{Short}
 use Rattle.gsym_leb128.proofs.Places.{unsigned_next}
 use Rattle.gsym_inline.specs.Tree.{Range, Node}
-use Rattle.gsym_inline.specs.Head.{range_at, ranges_at, Rest, rest_at, whole_at, Found, end, node, found_at, head_at, GoesOn}
+use Rattle.gsym_inline.specs.Head.{range_at, ranges_at, Rest, rest_at, whole_at, EndOrNode, end, node, found_at}
+use Rattle.gsym_inline.specs.Head.{head_at}
+use Rattle.gsym_inline.specs.Head.{GoesOn}
 use Rattle.gsym_inline.specs.Judge.{judged_at}
 use Rattle.gsym_inline.proofs.Forests.{node_fits}
 use Rattle.gsym_inline.specs.declared.head.Fault.{Fault}
@@ -17,7 +20,7 @@ use Rattle.gsym_inline.specs.declared.head.Fault.TheVariants.{Level}
 use Rattle.gsym_inline.specs.declared.head.NodeHead.{NodeHead}
 use Rattle.gsym_inline.specs.declared.head.Head.{Head}
 use Rattle.gsym_inline.specs.declared.head.Head.TheVariants as head
-use Rattle.gsym_inline.specs.View.{View}
+use Rattle.gsym_inline.specs.Inherited.{Inherited}
 use Rattle.gsym_inline.specs.declared.judge.JudgedNode.{JudgedNode}
 use Rattle.gsym_inline.proofs.Follows.{Follows, leads, then_ok}
 use Rattle.gsym_inline.proofs.Heads.{FoundJudged, judged_of, judged-is, FoundRead, head-is}
@@ -66,11 +69,11 @@ module _ (s : List ℕ) where
       let n : t.0.next ≡ w.2 = ap (λ (r : Node × ℕ × ℕ). r.2) (ok_is _ _ t.2) in
       (omega arith, omega arith)
 
-abbrev pub FoundGoes : ℕ → ℕ → Found → Type 0
+abbrev pub FoundGoes : ℕ → ℕ → EndOrNode → Type 0
 FoundGoes at len (end n) = (at < n) × (n ≤ len)
 FoundGoes at len (node self children next) = (at < next) × (next ≤ len)
 
-pub found-next : (s : List ℕ) (at : ℕ) (x : Found) → found_at s at ≡ Ok x → FoundGoes at (length s) x
+pub found-next : (s : List ℕ) (at : ℕ) (x : EndOrNode) → found_at s at ≡ Ok x → FoundGoes at (length s) x
 unfolding found_at
 found-next s at x e =
     let p = bind_ok (unsigned_at s at) _ x e in
@@ -95,15 +98,16 @@ need-level level x y e =
     (leb-true level 64 n.0, ok_is _ _ n.1)
 
 module _ (s : List ℕ) (level at : ℕ) (h : Result (Head NodeHead) Fault) (H : h ≡ head_at s level at) where
-  read-of : (y : Head NodeHead) → h ≡ Ok y → (x : Found) × (found_at s at ≡ Ok x) × FoundRead level x (Ok y)
+  read-of : (y : Head NodeHead) → h ≡ Ok y → (x : EndOrNode) × (found_at s at ≡ Ok x) × FoundRead level x (Ok y)
   read-of y e =
       leads (FoundRead level) (found_at s at) y
-      (subst (λ (r : Result (Head NodeHead) Fault). Follows (FoundRead level) (found_at s at) r) (sym H ∙ e) (head-is level s at))
+      (subst (λ (r : Result (Head NodeHead) Fault). Follows (FoundRead level) (found_at s at) r) (sym H ∙ e)
+      (head-is level s at))
 
   pub head-end-next : (n : ℕ) → h ≡ Ok (head.End n) → (at < n) × (n ≤ length s)
   head-end-next n e = let x = read-of (head.End n) e in go x.0 (found-next s at x.0 x.1) x.2
     where
-      go : (x : Found) → FoundGoes at (length s) x → FoundRead level x (Ok (head.End n)) → (at < n) × (n ≤ length s)
+      go : (x : EndOrNode) → FoundGoes at (length s) x → FoundRead level x (Ok (head.End n)) → (at < n) × (n ≤ length s)
       go (end m) g q = let z : m ≡ n = cc in rw (← z) g
       go (node self children next) g q =
           let n = need_ok (leb level 64) Level (Ok (head.Node q.0)) _ (sym q.1) in absurd (cc n.1)
@@ -112,7 +116,7 @@ module _ (s : List ℕ) (level at : ℕ) (h : Result (Head NodeHead) Fault) (H :
   head-next i e = let x = read-of (head.Node i) e in go x.0 (found-next s at x.0 x.1) x.2
     where
       go :
-          (x : Found) → FoundGoes at (length s) x → FoundRead level x (Ok (head.Node i)) →
+          (x : EndOrNode) → FoundGoes at (length s) x → FoundRead level x (Ok (head.Node i)) →
           (at < i.next) × (i.next ≤ length s) × (level ≤ 64)
       go (end m) g q = absurd cc
       go (node self children next) g q =
@@ -123,30 +127,33 @@ module _ (s : List ℕ) (level at : ℕ) (h : Result (Head NodeHead) Fault) (H :
 
 -- ---- a judged head
 
-module _ (s : List ℕ) (c : View) (at : ℕ) (h : Result (Head JudgedNode) Fault) (H : h ≡ judged_at c s at) where
-  judged-of : (y : Head JudgedNode) → h ≡ Ok y → (x : Found) × (found_at s at ≡ Ok x) × FoundJudged c x (Ok y)
+module _ (s : List ℕ) (c : Inherited) (at : ℕ) (h : Result (Head JudgedNode) Fault) (H : h ≡ judged_at c s at) where
+  judged-of : (y : Head JudgedNode) → h ≡ Ok y → (x : EndOrNode) × (found_at s at ≡ Ok x) × FoundJudged c x (Ok y)
   judged-of y e =
       leads (FoundJudged c) (found_at s at) y
-      (subst (λ (r : Result (Head JudgedNode) Fault). Follows (FoundJudged c) (found_at s at) r) (sym H ∙ e) (judged-is c s at))
+      (subst (λ (r : Result (Head JudgedNode) Fault). Follows (FoundJudged c) (found_at s at) r) (sym H ∙ e)
+      (judged-is c s at))
 
   pub judged-end-next : (n : ℕ) → h ≡ Ok (head.End n) → (at < n) × (n ≤ length s)
   judged-end-next n e = let x = judged-of (head.End n) e in go x.0 (found-next s at x.0 x.1) x.2
     where
-      go : (x : Found) → FoundGoes at (length s) x → FoundJudged c x (Ok (head.End n)) → (at < n) × (n ≤ length s)
+      go : (x : EndOrNode) → FoundGoes at (length s) x → FoundJudged c x (Ok (head.End n)) → (at < n) × (n ≤ length s)
       go (end m) g q = let z : m ≡ n = cc in rw (← z) g
       go (node self children next) g q =
-          let n = then_ok (node_fits c self) (Ok (head.Node (judged_of c (self, children, next)))) _ (sym q) in absurd (cc n.2)
+          let n = then_ok (node_fits c self) (Ok (head.Node (judged_of c (self, children, next)))) _ (sym q) in
+          absurd (cc n.2)
 
   pub judged-next : (i : JudgedNode) → h ≡ Ok (head.Node i) → (at < i.next) × (i.next ≤ length s) × (c.level ≤ 64)
   unfolding node_fits
   judged-next i e = let x = judged-of (head.Node i) e in go x.0 (found-next s at x.0 x.1) x.2
     where
       go :
-          (x : Found) → FoundGoes at (length s) x → FoundJudged c x (Ok (head.Node i)) →
+          (x : EndOrNode) → FoundGoes at (length s) x → FoundJudged c x (Ok (head.Node i)) →
           (at < i.next) × (i.next ≤ length s) × (c.level ≤ 64)
       go (end m) g q = absurd cc
       go (node self children next) g q =
-          let n = then_ok (node_fits c self) (Ok (head.Node (judged_of c (self, children, next)))) (head.Node i) (sym q) in
+          let n = then_ok (node_fits c self) (Ok (head.Node (judged_of c (self, children, next))))
+          (head.Node i) (sym q) in
           let l = need_ok (leb c.level 64) Level _ _ n.1 in
           let z : judged_of c (self, children, next) ≡ i = cc n.2 in
           let m : next ≡ i.next = ap (λ (k : JudgedNode). k.next) z in
@@ -162,7 +169,7 @@ head_onward s level at (Ok (head.Node h)) e = head-next s level at _ refl h (sym
 head_onward s level at (Err f) e = tt
 
 pub judged_onward :
-    (s : List ℕ) (c : View) (at : ℕ) (r : Result (Head JudgedNode) Fault) → r ≡ judged_at c s at →
+    (s : List ℕ) (c : Inherited) (at : ℕ) (r : Result (Head JudgedNode) Fault) → r ≡ judged_at c s at →
     GoesOn r (λ h. h.next) c.level at (length s)
 judged_onward s c at (Ok (head.End n)) e = judged-end-next s c at _ refl n (sym e)
 judged_onward s c at (Ok (head.Node h)) e = judged-next s c at _ refl h (sym e)

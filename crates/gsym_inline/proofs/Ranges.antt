@@ -2,7 +2,8 @@
 -- before.
 -- Assumes nothing.
 use mathlib.Core.Bool.{◌||◌}
-use Rattle.std.proofs.Common.{Ok, Err, Result, ℕ, suc, zero, ◌+◌, ◌<◌, List, [], ◌∷◌, Bool, true, false, ◌≡◌, refl, sym, ap, ◌∙◌, arith, if◌then◌else◌}
+use Rattle.std.proofs.Common.{Ok, Err, Result, ℕ, suc, zero, ◌+◌, ◌<◌, List, [], ◌∷◌, Bool, true, false, ◌≡◌, refl, sym}
+use Rattle.std.proofs.Common.{ap, ◌∙◌, arith, if◌then◌else◌}
 use Rattle.gsym_reads.specs.Steps.{◌>>=◌}
 use Rattle.gsym_leb128.specs.Answers.{unsigned_at}
 use Rattle.gsym_leb128.specs.declared.Cause.{Cause}
@@ -11,7 +12,7 @@ use Rattle.gsym_inline.specs.Frames.{in_range, any_in, first_off}
 use Rattle.gsym_inline.specs.Head.{range_at, ranges_at, past_ranges}
 use Rattle.gsym_inline.specs.Judge.{judged_range, judged_ranges, span_of, spans_of}
 use Rattle.gsym_inline.specs.declared.head.Fault.{Fault}
-use Rattle.gsym_inline.specs.View.{View}
+use Rattle.gsym_inline.specs.Inherited.{Inherited}
 
 -- ---- passed over
 
@@ -61,7 +62,7 @@ first_from : Bool → ℕ → ℕ → List Range → ℕ
 first_from fresh first base [] = first
 first_from fresh first base (r ∷ rs) = if fresh then base + r.off else first
 
-pub spans_from : View → Bool → ℕ → Bool → Result (List Range × ℕ) Fault → Result (ℕ × ℕ × Bool) Fault
+pub spans_from : Inherited → Bool → ℕ → Bool → Result (List Range × ℕ) Fault → Result (ℕ × ℕ × Bool) Fault
 spans_from c fresh first held x = do
   (rs, m) ← x
   Ok (m, first_from fresh first c.base rs, if held then true else any_in c.addr c.base rs)
@@ -77,7 +78,7 @@ first-later first base [] = refl
 first-later first base (r ∷ rs) = refl
 
 -- before the first turn
-pub spans-start : (c : View) (x : Result (List Range × ℕ) Fault) → spans_of c x ≡ spans_from c true c.base false x
+pub spans-start : (c : Inherited) (x : Result (List Range × ℕ) Fault) → spans_of c x ≡ spans_from c true c.base false x
 unfolding spans_of spans_from
 spans-start c (Ok (rs, n)) = rw (first-start c.base rs) refl
 spans-start c (Err f) = refl
@@ -95,7 +96,7 @@ any_in-cons addr base r rs = go (in_range addr base r)
 
 -- one range more in front
 and-range :
-    (c : View) (fresh : Bool) (first : ℕ) (held : Bool) (r : Range) (x : Result (List Range × ℕ) Fault) →
+    (c : Inherited) (fresh : Bool) (first : ℕ) (held : Bool) (r : Range) (x : Result (List Range × ℕ) Fault) →
     spans_from c fresh first held (put_front r x)
     ≡ spans_from c false (if fresh then c.base + r.off else first)
     (if held then true else in_range c.addr c.base r) x
@@ -105,13 +106,14 @@ and-range c fresh first false r (Ok (rs, m)) = rw (first-later _ c.base rs, any_
 and-range c fresh first held r (Err f) = refl
 
 -- from what one range comes to
-from_span : View → Bool → ℕ → Bool → (ℕ → Result (List Range × ℕ) Fault) → Result (ℕ × ℕ × Bool) Fault → Result (ℕ × ℕ × Bool) Fault
+from_span : Inherited → Bool → ℕ → Bool → (ℕ → Result (List Range × ℕ) Fault) → Result (ℕ × ℕ × Bool) Fault →
+    Result (ℕ × ℕ × Bool) Fault
 from_span c fresh first held go (Ok (n, start, inside)) =
     spans_from c false (if fresh then start else first) (if held then true else inside) (go n)
 from_span c fresh first held go (Err f) = Err f
 
 then-span :
-    (c : View) (fresh : Bool) (first : ℕ) (held : Bool) (go : ℕ → Result (List Range × ℕ) Fault)
+    (c : Inherited) (fresh : Bool) (first : ℕ) (held : Bool) (go : ℕ → Result (List Range × ℕ) Fault)
     (x : Result (Range × ℕ) Fault) →
     spans_from c fresh first held (x >>= λ p. put_front p.0 (go p.1))
     ≡ from_span c fresh first held go (span_of c x)
@@ -119,7 +121,7 @@ unfolding span_of from_span spans_from
 then-span c fresh first held go (Ok (r, n)) = and-range c fresh first held r (go n)
 then-span c fresh first held go (Err f) = refl
 
-module _ (s : List ℕ) (c : View) (fresh : Bool) (left rest first : ℕ) (held : Bool) (to : ℕ)
+module _ (s : List ℕ) (c : Inherited) (fresh : Bool) (left rest first : ℕ) (held : Bool) (to : ℕ)
     (x : Result (ℕ × ℕ × Bool) Fault) (X : x ≡ span_of c (judged_range c.base s to)) (l : left ≡ suc rest) where
   turn :
       spans_from c fresh first held (judged_ranges c.base left s to)
@@ -145,7 +147,7 @@ module _ (s : List ℕ) (c : View) (fresh : Bool) (left rest first : ℕ) (held 
       turn ∙ ap (from_span c fresh first held (judged_ranges c.base rest s)) p ∙ rw (ey, ez) refl
 
 pub spans-none :
-    (s : List ℕ) (c : View) (fresh : Bool) (first : ℕ) (held : Bool) (left to : ℕ) → left ≡ 0 →
+    (s : List ℕ) (c : Inherited) (fresh : Bool) (first : ℕ) (held : Bool) (left to : ℕ) → left ≡ 0 →
     Ok (to, first, held) ≡ spans_from c fresh first held (judged_ranges c.base left s to)
 unfolding judged_ranges spans_from any_in first_from
 spans-none s c fresh first true zero to z = refl

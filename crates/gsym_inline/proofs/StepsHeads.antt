@@ -1,6 +1,7 @@
 -- Steps judged in their order, and what the items of a node come to so: what its head comes to, judged or passed over.
 -- Assumes nothing.
-use Rattle.std.proofs.Common.{Ok, Err, Some, None, Option, Result, ℕ, zero, suc, ◌+◌, min, Bool, true, false, cond, List, [], ◌∷◌, ◌++◌, ◌≡◌, refl, ap, ◌∙◌, eqb, leb, length, arith}
+use Rattle.std.proofs.Common.{Ok, Err, Some, None, Option, Result, ℕ, zero, suc, ◌+◌, min, Bool, true, false, cond}
+use Rattle.std.proofs.Common.{List, [], ◌∷◌, ◌++◌, ◌≡◌, refl, ap, ◌∙◌, eqb, leb, length, arith}
 use Rattle.gsym_reads.specs.Steps.{◌>>=◌, ◌>>◌, need, given, told}
 use Rattle.gsym_reads.specs.Answers.{u8_at, u32_at}
 use Rattle.gsym_leb128.specs.Answers.{unsigned_at}
@@ -8,7 +9,8 @@ use Rattle.gsym_leb128.specs.declared.Cause.{Cause}
 use Rattle.gsym_leb128.specs.declared.Cause.TheVariants.{Short}
 use Rattle.gsym_types.specs.declared.InlineFrame.{InlineFrame}
 use Rattle.gsym_types.specs.declared.Refusal.{Refusal}
-use Rattle.gsym_types.specs.declared.Refusal.TheVariants.{UnreadInline, InlineSumTooLarge, CallFileTooLarge, TooDeep, TooManyFrames}
+use Rattle.gsym_types.specs.declared.Refusal.TheVariants.{UnreadInline, InlineSumTooLarge, CallFileTooLarge, TooDeep}
+use Rattle.gsym_types.specs.declared.Refusal.TheVariants.{TooManyFrames}
 use Rattle.gsym_inline.specs.Limits.{most_address, most_file, deepest_level}
 use Rattle.gsym_inline.specs.Tree.{Range}
 use Rattle.gsym_inline.specs.Frames.{any_in, first_off, named, frame}
@@ -16,7 +18,7 @@ use Rattle.gsym_inline.specs.Head.{range_at, ranges_at, Rest, rest_at, past_rang
 use Rattle.gsym_inline.specs.Judge.{judged_range, judged_ranges, judged_rest, judged_node, judged_at}
 use Rattle.gsym_inline.specs.Block.{Block, refusal_of}
 use Rattle.gsym_inline.specs.Steps.{
-  Item,
+  NodeItem,
   range_count,
   range_offset,
   range_size,
@@ -49,7 +51,7 @@ use Rattle.gsym_inline.specs.declared.head.Fault.TheVariants as fault
 use Rattle.gsym_inline.specs.declared.head.NodeHead.{NodeHead}
 use Rattle.gsym_inline.specs.declared.head.Head.{Head}
 use Rattle.gsym_inline.specs.declared.head.Head.TheVariants as head
-use Rattle.gsym_inline.specs.View.{View}
+use Rattle.gsym_inline.specs.Inherited.{Inherited}
 use Rattle.gsym_inline.specs.declared.judge.JudgedNode.{JudgedNode}
 
 -- a block that is refused
@@ -117,14 +119,14 @@ on-place (Err e) f go = refl
 module _ (room : ℕ) (acc : List InlineFrame) where
   -- an item that is read
   item-number :
-      (i : Item) (go : ℕ → ℕ → List Step) (x : Result (ℕ × ℕ) Cause) →
+      (i : NodeItem) (go : ℕ → ℕ → List Step) (x : Result (ℕ × ℕ) Cause) →
       outcome room acc (with_item i go x) ≡ on (told fault.Unread x) (λ p. outcome room acc (go p.0 p.1))
   unfolding outcome with_item
   item-number i go (Ok (v, n)) = refl
   item-number i go (Err k) = refl
 
   item-byte :
-      (i : Item) (go : ℕ → ℕ → List Step) (next : ℕ) (x : Option ℕ) →
+      (i : NodeItem) (go : ℕ → ℕ → List Step) (next : ℕ) (x : Option ℕ) →
       outcome room acc (with_item i go (given Short x >>= λ v. Ok (v, next)))
       ≡ on (given (fault.Unread Short) x) (λ v. outcome room acc (go v next))
   unfolding outcome with_item
@@ -169,7 +171,8 @@ module _ (room : ℕ) (acc : List InlineFrame) where
     passed-range :
         (at : ℕ) (more : Range → ℕ → List Step) →
         outcome room acc
-        (item_steps range_offset s at (λ off n. item_steps range_size s n (λ size m. more (record { off = off; size = size }) m)))
+        (item_steps range_offset s at
+        (λ off n. item_steps range_size s n (λ size m. more (record { off = off; size = size }) m)))
         ≡ on (told fault.Unread (range_at s at)) (λ p. outcome room acc (more p.0 p.1))
     unfolding item_at range_at
     passed-range at more =
@@ -197,20 +200,24 @@ module _ (room : ℕ) (acc : List InlineFrame) where
 
     module _ (mode : Mode) (go : (children name file line next : ℕ) → List Step) where
       line_steps : (children name file at : ℕ) → List Step
-      line_steps children name file at = item_steps call_line s at (λ line n. go children name file (min 4294967295 line) n)
+      line_steps children name file at =
+          item_steps call_line s at (λ line n. go children name file (min 4294967295 line) n)
 
       file_steps : (children name at : ℕ) → List Step
-      file_steps children name at = item_steps call_file s at (λ file n. limit mode file (line_steps children name file n))
+      file_steps children name at =
+          item_steps call_file s at (λ file n. limit mode file (line_steps children name file n))
 
       rest_steps : ℕ → List Step
-      rest_steps at = item_steps children_byte s at (λ children n. item_steps node_name s n (λ name m. file_steps children name m))
+      rest_steps at =
+          item_steps children_byte s at (λ children n. item_steps node_name s n (λ name m. file_steps children name m))
 
       -- the byte and the four bytes, with `to` for what comes after them
       byte-and-name :
           (at : ℕ) (to : (children name : ℕ) → Block) →
           ((children name : ℕ) → outcome room acc (file_steps children name (at + 5)) ≡ to children name) →
           outcome room acc (rest_steps at)
-          ≡ on (given (fault.Unread Short) (u8_at s at)) (λ children. on (given (fault.Unread Short) (u32_at s (at + 1))) (to children))
+          ≡ on (given (fault.Unread Short) (u8_at s at))
+          (λ children. on (given (fault.Unread Short) (u32_at s (at + 1))) (to children))
       unfolding item_at rest_steps
       byte-and-name at to h =
           let e : at + 1 + 4 ≡ at + 5 = omega arith in
@@ -221,10 +228,17 @@ module _ (room : ℕ) (acc : List InlineFrame) where
           (λ name. ap (λ (n : ℕ). outcome room acc (file_steps children name n)) e ∙ h children name))
 
     judged-rest :
-        (base start : ℕ) (inside : Bool) (at : ℕ) (go : (children name file line next : ℕ) → List Step) (to : JudgedNode → Block) →
+        (base start : ℕ) (inside : Bool) (at : ℕ) (go : (children name file line next : ℕ) → List Step)
+        (to : JudgedNode → Block) →
         ((children name file line next : ℕ) →
         outcome room acc (go children name file line next)
-        ≡ to (record { next = next; base = start; inside = inside; children = children; frame = frame name file line })) →
+        ≡ to (record {
+          next = next;
+          base = start;
+          inside = inside;
+          children = children;
+          frame = frame name file line;
+        })) →
         outcome room acc (rest_steps (judged base) go at) ≡ on (judged_rest start inside s at) to
     unfolding outcome item_at judged_rest file_steps line_steps limit
     judged-rest base start inside at go to h =
@@ -283,7 +297,8 @@ module _ (room : ℕ) (acc : List InlineFrame) where
       -- after a node's ranges, and after its head
       abbrev head_steps : Mode → List Range → (children name file line next : ℕ) → List Step
       head_steps mode rs children name file line next =
-          children_steps list addr level mode rest (record { ranges = rs; name = name; file = file; line = line }) children next
+          children_steps list addr level mode rest
+          (record { ranges = rs; name = name; file = file; line = line }) children next
 
       pub judged-head :
           (base at : ℕ) (to : Head JudgedNode → Block) → ((n : ℕ) → outcome room acc (over n) ≡ to (head.End n)) →
@@ -304,7 +319,7 @@ module _ (room : ℕ) (acc : List InlineFrame) where
           ∙ on-same (told fault.Unread (unsigned_at s at)) _ _ (λ p. by-zero p.0 p.1 (eqb p.0 0))
           ∙ on-bind (told fault.Unread (unsigned_at s at)) _ to
         where
-          c : View
+          c : Inherited
           c = record { level = level; addr = addr; base = base; room = room }
 
           by-zero :

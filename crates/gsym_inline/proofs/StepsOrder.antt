@@ -1,7 +1,8 @@
--- The steps of a block are in the order of RULES ("Inline tree"): the items stand in its bytes one after another from its
--- start on, and what is judged comes directly after what it is judged by.
+-- The steps of a block are in the order of RULES ("Inline tree"): the items stand in its bytes one after another from
+-- its start on, and what is judged comes directly after what it is judged by.
 -- Assumes nothing.
-use Rattle.std.proofs.Common.{Ok, Err, Some, None, Option, Result, ℕ, zero, suc, ◌+◌, ◌<◌, ◌≤◌, min, List, [], ◌∷◌, ◌≡◌, refl, ap, eqb, length, cond, drop_of_length-le, arith}
+use Rattle.std.proofs.Common.{Ok, Err, Some, None, Option, Result, ℕ, zero, suc, ◌+◌, ◌<◌, ◌≤◌, min, List, [], ◌∷◌, ◌≡◌}
+use Rattle.std.proofs.Common.{refl, ap, eqb, length, cond, drop_of_length-le, arith}
 use borrow.Author.Tests.{eqb-false}
 use Rattle.gsym_leb128.specs.declared.Cause.{Cause}
 use Rattle.gsym_leb128.specs.declared.Cause.TheVariants.{Short}
@@ -9,7 +10,11 @@ use Rattle.gsym_reads.specs.Answers.{u8_at, u32_at}
 use Rattle.gsym_leb128.specs.Leb.{digits, unsigned}
 use Rattle.gsym_leb128.specs.Answers.{unsigned_at}
 use Rattle.gsym_inline.specs.Tree.{Range, Node}
-use Rattle.gsym_inline.specs.Steps.{Item, range_count, range_offset, range_size, children_byte, node_name, call_file, call_line, Step, read, stands, ends, calls, opens, item_at, with_item, item_steps, Mode, judged, passed, is_open, children_mode, sums, limit, range_steps, children_steps, node_steps, list_steps, steps_of, InFile, Follows, InPlace}
+use Rattle.gsym_inline.specs.Steps.{NodeItem, range_count, range_offset, range_size, children_byte, node_name}
+use Rattle.gsym_inline.specs.Steps.{call_file}
+use Rattle.gsym_inline.specs.Steps.{call_line, Step, read, stands, ends, calls, opens, item_at, with_item, item_steps}
+use Rattle.gsym_inline.specs.Steps.{Mode, judged, passed, is_open, children_mode, sums, limit, range_steps}
+use Rattle.gsym_inline.specs.Steps.{children_steps, node_steps, list_steps, steps_of, InFile, Follows, InPlace}
 use Rattle.gsym_inline.proofs.Numbers.{never, pick-has, byte-within, word-within}
 use Rattle.gsym_leb128.proofs.Places.{unsigned_next}
 use Rattle.gsym_reads.specs.Steps.{◌>>=◌, given}
@@ -43,7 +48,7 @@ module _ (s : List ℕ) (at v n : ℕ) where
       (omega arith, omega arith)
   word-goes None q p = never (let z : ◌≡◌ {A = ℕ} 0 1 = cc in z)
 
-  item-goes : (i : Item) → item_at i s at ≡ Ok (v, n) → (at < n) × (n ≤ length s)
+  item-goes : (i : NodeItem) → item_at i s at ≡ Ok (v, n) → (at < n) × (n ≤ length s)
   unfolding item_at
   item-goes range_count p = number-goes p
   item-goes range_offset p = number-goes p
@@ -64,7 +69,7 @@ Ordered s at last xs = InFile s at xs × InPlace last xs
 
 module _ (s : List ℕ) where
   item_in :
-      (i : Item) (at : ℕ) (last : Step) (go : ℕ → ℕ → List Step) →
+      (i : NodeItem) (at : ℕ) (last : Step) (go : ℕ → ℕ → List Step) →
       ((v n : ℕ) → at < n → Ordered s n (read i v) (go v n)) → Ordered s at last (item_steps i s at go)
   unfolding with_item InFile InPlace Follows
   item_in i at last go h = by (item_at i s at) refl

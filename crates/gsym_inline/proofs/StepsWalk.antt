@@ -1,6 +1,7 @@
 -- The steps of a block, judged in their order: the outcome is that of the reading in one pass.
 -- Assumes nothing.
-use Rattle.std.proofs.Common.{Ok, Result, ℕ, zero, suc, ◌+◌, Bool, true, false, cond, List, [], ◌∷◌, ◌++◌, ◌≡◌, refl, sym, ap, ◌∙◌, eqb, leb, length}
+use Rattle.std.proofs.Common.{Ok, Result, ℕ, zero, suc, ◌+◌, Bool, true, false, cond, List, [], ◌∷◌, ◌++◌, ◌≡◌, refl}
+use Rattle.std.proofs.Common.{sym, ap, ◌∙◌, eqb, leb, length}
 use Rattle.gsym_reads.specs.Steps.{◌>>=◌, ◌>>◌, need}
 use Rattle.gsym_types.specs.declared.InlineFrame.{InlineFrame}
 use Rattle.gsym_types.specs.declared.Refusal.TheVariants.{TooManyFrames}
@@ -9,15 +10,17 @@ use Rattle.gsym_inline.specs.Frames.{any_in, first_off, frame, named}
 use Rattle.gsym_inline.specs.Head.{head_at}
 use Rattle.gsym_inline.specs.Judge.{judged_at}
 use Rattle.gsym_inline.specs.Skip.{past_node, then_skip, skip_within, skip_list}
-use Rattle.gsym_inline.specs.Walk.{with_frame, Places, Walk, open_node, closed_node, walk_from, then_walk, walk_within, walk_list, walk_node}
+use Rattle.gsym_inline.specs.Walk.{with_frame, Places, Walk, open_node, closed_node, walk_from, then_walk, walk_within}
+use Rattle.gsym_inline.specs.Walk.{walk_list, walk_node}
 use Rattle.gsym_inline.specs.Block.{Block, root_context, block_of}
-use Rattle.gsym_inline.specs.Steps.{Step, opens, judged, passed, is_open, children_mode, children_steps, list_steps, steps_of}
+use Rattle.gsym_inline.specs.Steps.{Step, opens, judged, passed, is_open, children_mode, children_steps, list_steps}
+use Rattle.gsym_inline.specs.Steps.{steps_of}
 use Rattle.gsym_inline.specs.declared.head.Fault.{Fault}
 use Rattle.gsym_inline.specs.declared.head.Fault.TheVariants.{Room}
 use Rattle.gsym_inline.specs.declared.head.Head.{Head}
 use Rattle.gsym_inline.specs.declared.judge.JudgedNode.{JudgedNode}
 use Rattle.gsym_inline.specs.declared.head.NodeHead.{NodeHead}
-use Rattle.gsym_inline.specs.View.{View}
+use Rattle.gsym_inline.specs.Inherited.{Inherited}
 use Rattle.gsym_inline.specs.declared.head.Head.TheVariants as head
 use Rattle.gsym_inline.specs.declared.skipping.Next.TheVariants as after
 use Rattle.gsym_inline.proofs.Follows.{bind_assoc}
@@ -41,7 +44,8 @@ module _ (room : ℕ) (acc : List InlineFrame) (s : List ℕ) (addr : ℕ) where
     where
       to : Head NodeHead → Block
       to x =
-          on (past_node (skip_within f s (level + 1)) x >>= then_skip (skip_within f s level)) (λ n. outcome room acc (rest n))
+          on (past_node (skip_within f s (level + 1)) x >>= then_skip (skip_within f s level))
+          (λ n. outcome room acc (rest n))
 
       by-children :
           (z : Bool) (next : ℕ) →
@@ -58,11 +62,12 @@ module _ (room : ℕ) (acc : List InlineFrame) (s : List ℕ) (addr : ℕ) where
           ∙ on-same (skip_within f s (level + 1) next) _ _ (λ n. ih level n rest)
           ∙ on-bind (skip_within f s (level + 1) next) (skip_within f s level) (λ n. outcome room acc (rest n))
           ∙ ap (λ (x : Result ℕ Fault). on x (λ n. outcome room acc (rest n)))
-          (sym (bind_assoc (skip_within f s (level + 1) next) (λ n. Ok (after.Past n)) (then_skip (skip_within f s level))))
+          (sym (bind_assoc (skip_within f s (level + 1) next) (λ n. Ok (after.Past n))
+          (then_skip (skip_within f s level))))
 
 -- ---- judged nodes
 
-abbrev context : (level addr base room : ℕ) → View
+abbrev context : (level addr base room : ℕ) → Inherited
 context level addr base room = record { level = level; addr = addr; base = base; room = room }
 
 -- past a node whose list of children was read
@@ -104,7 +109,8 @@ module _ (room f : ℕ) (s : List ℕ) (addr : ℕ)
   shut-children :
       (next : ℕ) (acc : List InlineFrame) (z : Bool) →
       outcome room acc (cond z (rest next) (list_steps f s addr (level + 1) passed next rest))
-      ≡ on ((cond z (Ok next) (skip_within f s (level + 1) next) >>= λ n. Ok (after.Past n, acc)) >>= then_walk onward) K
+      ≡ on ((cond z (Ok next) (skip_within f s (level + 1) next) >>= λ n. Ok (after.Past n, acc))
+      >>= then_walk onward) K
   unfolding then_walk
   shut-children next acc true = rest-is next acc
   shut-children next acc false =

@@ -1,13 +1,14 @@
--- Reading nodes off the bytes, judged or passed over, comes to what the tree gives that the bytes hold; where they hold no
--- whole tree, there is a fault.
+-- Reading nodes off the bytes, judged or passed over, comes to what the tree gives that the bytes hold; where they hold
+-- no whole tree, there is a fault.
 -- Assumes nothing.
-use Rattle.std.proofs.Common.{Ok, Err, Result, ℕ, zero, suc, ◌+◌, List, Bool, true, false, not, ◌≡◌, refl, leb, eqb, if◌then◌else◌}
+use Rattle.std.proofs.Common.{Ok, Err, Result, ℕ, zero, suc, ◌+◌, List, Bool, true, false, not, ◌≡◌, refl, leb, eqb}
+use Rattle.std.proofs.Common.{if◌then◌else◌}
 use Rattle.gsym_reads.specs.Steps.{◌>>=◌, ◌>>◌, need}
 use Rattle.gsym_inline.proofs.Follows.{bind_assoc}
 use Rattle.gsym_types.specs.declared.InlineFrame.{InlineFrame}
 use Rattle.gsym_inline.specs.Tree.{Node, Forest, none, tree}
 use Rattle.gsym_inline.specs.Frames.{any_in, frame_of}
-use Rattle.gsym_inline.specs.Head.{Found, end, node, found_at, head_at}
+use Rattle.gsym_inline.specs.Head.{EndOrNode, end, node, found_at, head_at}
 use Rattle.gsym_inline.specs.Judge.{judged_at}
 use Rattle.gsym_inline.specs.Skip.{past_node, then_skip, skip_within}
 use Rattle.gsym_inline.specs.Walk.{with_frame, Places, Walk, open_node, closed_node, walk_from, then_walk, walk_within}
@@ -19,7 +20,7 @@ use Rattle.gsym_inline.specs.declared.head.Head.{Head}
 use Rattle.gsym_inline.specs.declared.judge.JudgedNode.{JudgedNode}
 use Rattle.gsym_inline.specs.declared.head.NodeHead.{NodeHead}
 use Rattle.gsym_inline.specs.declared.head.Head.TheVariants as head
-use Rattle.gsym_inline.specs.View.{View}
+use Rattle.gsym_inline.specs.Inherited.{Inherited}
 use Rattle.gsym_inline.specs.declared.skipping.Next.TheVariants as after
 use Rattle.gsym_inline.proofs.Follows.{bind_assoc, Follows, by_step, by_test}
 use Rattle.gsym_inline.proofs.Heads.{FoundJudged, judged_of, judged-is, FoundRead, head-is}
@@ -42,7 +43,8 @@ below_read children byte next = if eqb byte 0 then Ok (none, next) else children
 
 module _ (level : ℕ) (self : Node) (below : Forest) where
   pass-deep :
-      (x : Read) → (leb level 64 ≡ false) → Follows (Passed level) (x >>= λ t. Ok (tree self below t.0, t.1)) (Err Level)
+      (x : Read) → (leb level 64 ≡ false) →
+      Follows (Passed level) (x >>= λ t. Ok (tree self below t.0, t.1)) (Err Level)
   unfolding deep_in
   pass-deep (Ok t) z = rw z refl
   pass-deep (Err k) z = refl
@@ -69,7 +71,8 @@ module _ (f : ℕ) (s : List ℕ)
       (if eqb byte 0 then Ok next else skip_within f s level next)
   unfolding deep_in
   pass-children level byte next =
-      by_test (Passed level) (eqb byte 0) (Ok (none, next)) (read_within f s next) (Ok next) (skip_within f s level next)
+      by_test (Passed level) (eqb byte 0) (Ok (none, next)) (read_within f s next) (Ok next)
+      (skip_within f s level next)
       (λ _. refl) (λ _. ih level next)
 
   module _ (level : ℕ) (z : leb level 64 ≡ true) (self : Node) where
@@ -99,7 +102,7 @@ module _ (f : ℕ) (s : List ℕ)
 
   -- from what stands at a place
   pass-from :
-      (level : ℕ) (x : Found) (y : Result (Head NodeHead) Fault) → FoundRead level x y →
+      (level : ℕ) (x : EndOrNode) (y : Result (Head NodeHead) Fault) → FoundRead level x y →
       Follows (Passed level) (read_from (read_within f s) (read_within f s) x)
       (y >>= λ h. past_node (skip_within f s (level + 1)) h >>= then_skip (skip_within f s level))
   unfolding read_from past_node then_skip deep_in
@@ -116,7 +119,8 @@ module _ (f : ℕ) (s : List ℕ)
           (if eqb byte 0 then Ok next else skip_within f s (level + 1) next) (pass-children (level + 1) byte next))
       by-level false z q = rw q (pass-low level self z (below_read (read_within f s) byte next))
 
-pub skip_is : (f : ℕ) (s : List ℕ) (level at : ℕ) → Follows (Passed level) (read_within f s at) (skip_within f s level at)
+pub skip_is :
+    (f : ℕ) (s : List ℕ) (level at : ℕ) → Follows (Passed level) (read_within f s at) (skip_within f s level at)
 unfolding read_within skip_within
 skip_is zero s level at = refl
 skip_is (suc f) s level at =
@@ -126,7 +130,7 @@ skip_is (suc f) s level at =
 -- ---- judged
 
 -- what judged nodes come to after the frames so far: the place after them, and the frames
-abbrev pub Gives : View → List InlineFrame → Forest × ℕ → Places → Type 0
+abbrev pub Gives : Inherited → List InlineFrame → Forest × ℕ → Places → Type 0
 Gives c acc t r = r ≡ (forest_frames c t.0 acc >>= λ fs. Ok (t.1, fs))
 
 -- past a node whose list of children was read
@@ -136,13 +140,13 @@ over x = do
   Ok (after.Past n, fs)
 
 -- one node with all below it, after its own tests
-abbrev pub node_frames : View → Node → Forest → List InlineFrame → Result (List InlineFrame) Fault
+abbrev pub node_frames : Inherited → Node → Forest → List InlineFrame → Result (List InlineFrame) Fault
 node_frames c self below acc =
     if any_in c.addr c.base self.ranges
     then (with_frame c.room (frame_of self) acc >>= forest_frames (below_node c self) below)
     else (need (not (deep_in (c.level + 1) below)) Level >> Ok acc)
 
-module _ (c : View) (acc : List InlineFrame) (self : Node) where
+module _ (c : Inherited) (acc : List InlineFrame) (self : Node) where
   -- a node with a fault of its own
   gives-unfit :
       (g : Fault) → node_fits c self ≡ Err g → (go : ℕ → Read) (x : Read) →
@@ -174,13 +178,15 @@ module _ (c : View) (acc : List InlineFrame) (self : Node) where
 
 -- with `onward` after the node, which reads on as `go` does
 module _ (f : ℕ) (s : List ℕ)
-    (ih : (c : View) (at : ℕ) (acc : List InlineFrame) → Follows (Gives c acc) (read_within f s at) (walk_within f s c at acc))
-    (c : View) (onward : ℕ → List InlineFrame → Places) (go : ℕ → Read)
+    (ih : (c : Inherited) (at : ℕ) (acc : List InlineFrame) →
+    Follows (Gives c acc) (read_within f s at) (walk_within f s c at acc))
+    (c : Inherited) (onward : ℕ → List InlineFrame → Places) (go : ℕ → Read)
     (same : (n : ℕ) (acc : List InlineFrame) → Follows (Gives c acc) (go n) (onward n acc)) where
   module _ (acc : List InlineFrame) (self : Node) (u : Unit {0}) (z : node_fits c self ≡ Ok u) where
     -- an open node: its children with its frame
     open-over :
-        any_in c.addr c.base self.ranges ≡ true → (fs : List InlineFrame) → with_frame c.room (frame_of self) acc ≡ Ok fs →
+        any_in c.addr c.base self.ranges ≡ true → (fs : List InlineFrame) →
+        with_frame c.room (frame_of self) acc ≡ Ok fs →
         (x : Read) (y : Places) → Follows (Gives (below_node c self) fs) x y →
         Follows (Gives c acc) (x >>= whole self go) (over y >>= then_walk onward)
     unfolding then_walk
@@ -189,7 +195,8 @@ module _ (f : ℕ) (s : List ℕ)
         by-frames :
             (x : Result (List InlineFrame) Fault) → forest_frames (below_node c self) b.0 fs ≡ x →
             y ≡ (x >>= λ gs. Ok (b.1, gs)) → Follows (Gives c acc) (whole self go b) (over y >>= then_walk onward)
-        by-frames (Ok gs) q e = rw e (gives-rest c acc self u z b.0 gs (rw (w, p) q) (go b.1) (onward b.1 gs) (same b.1 gs))
+        by-frames (Ok gs) q e =
+            rw e (gives-rest c acc self u z b.0 gs (rw (w, p) q) (go b.1) (onward b.1 gs) (same b.1 gs))
         by-frames (Err g) q e = rw e (gives-fault c acc self u z b.0 g (rw (w, p) q) (go b.1))
     open-over w fs p (Err k) (Ok n) e = absurd cc
     open-over w fs p (Err k) (Err g) e = refl
@@ -212,7 +219,8 @@ module _ (f : ℕ) (s : List ℕ)
     shut-over w (Err k) (Err g) e = refl
 
     put-fault :
-        any_in c.addr c.base self.ranges ≡ true → (g : Fault) → with_frame c.room (frame_of self) acc ≡ Err g → (x : Read) →
+        any_in c.addr c.base self.ranges ≡ true → (g : Fault) → with_frame c.room (frame_of self) acc ≡ Err g →
+        (x : Read) →
         Follows (Gives c acc) (x >>= whole self go) (Err g)
     put-fault w g p (Ok b) = gives-fault c acc self u z b.0 g (rw (w, p) refl) (go b.1)
     put-fault w g p (Err k) = refl
@@ -228,7 +236,7 @@ module _ (f : ℕ) (s : List ℕ)
 
   -- from what stands at a place
   walk-stand :
-      (acc : List InlineFrame) (x : Found) (y : Result (Head JudgedNode) Fault) → FoundJudged c x y →
+      (acc : List InlineFrame) (x : EndOrNode) (y : Result (Head JudgedNode) Fault) → FoundJudged c x y →
       Follows (Gives c acc) (read_from (read_within f s) go x)
       (y >>= λ v. walk_from (walk_within f s) (skip_within f s (c.level + 1)) c acc v >>= then_walk onward)
   unfolding read_from walk_from open_node closed_node then_walk forest_frames
@@ -256,10 +264,12 @@ module _ (f : ℕ) (s : List ℕ)
           else ((if eqb byte 0 then Ok to else skip_within f s (c.level + 1) to) >>= λ n. Ok (after.Past n, acc)))
           >>= then_walk onward)
       by-inside u z true w = by-put u z w (with_frame c.room (frame_of self) acc) refl
-      by-inside u z false w = shut-over acc self u z w children _ (pass-children f s (skip_is f s) (c.level + 1) byte to)
+      by-inside u z false w =
+          shut-over acc self u z w children _ (pass-children f s (skip_is f s) (c.level + 1) byte to)
 
       by-fits :
-          (x : Result (Unit {0}) Fault) → node_fits c self ≡ x → y ≡ (x >> Ok (head.Node (judged_of c (self, byte, to)))) →
+          (x : Result (Unit {0}) Fault) → node_fits c self ≡ x →
+          y ≡ (x >> Ok (head.Node (judged_of c (self, byte, to)))) →
           Follows (Gives c acc) (children >>= whole self go)
           (y >>= λ v. walk_from (walk_within f s) (skip_within f s (c.level + 1)) c acc v >>= then_walk onward)
       by-fits (Ok u) z q = rw q (by-inside u z (any_in c.addr c.base self.ranges) refl)
@@ -268,7 +278,7 @@ module _ (f : ℕ) (s : List ℕ)
 -- ---- a list, and one node with nothing after it
 
 pub walk_is :
-    (f : ℕ) (s : List ℕ) (c : View) (at : ℕ) (acc : List InlineFrame) →
+    (f : ℕ) (s : List ℕ) (c : Inherited) (at : ℕ) (acc : List InlineFrame) →
     Follows (Gives c acc) (read_within f s at) (walk_within f s c at acc)
 unfolding read_within walk_within
 walk_is zero s c at acc = refl
@@ -277,17 +287,18 @@ walk_is (suc f) s c at acc =
     (λ x y e. walk-stand f s (walk_is f s) c (walk_within f s c) (read_within f s) (walk_is f s c) acc x y e)
 
 -- one judged node, in so many turns
-unfoldable pub walk_from_root : ℕ → List ℕ → View → ℕ → List InlineFrame → Walk
+unfoldable pub walk_from_root : ℕ → List ℕ → Inherited → ℕ → List InlineFrame → Walk
 walk_from_root f s c at acc = do
   head ← judged_at c s at
   walk_from (walk_within f s) (skip_within f s (c.level + 1)) c acc head
 
 pub node-root :
-    (f : ℕ) (s : List ℕ) (c : View) (at : ℕ) (acc : List InlineFrame) →
+    (f : ℕ) (s : List ℕ) (c : Inherited) (at : ℕ) (acc : List InlineFrame) →
     Follows (Gives c acc) (found_at s at >>= read_from (read_within f s) (λ n. Ok (none, n)))
     (walk_from_root f s c at acc >>= then_walk (λ n fs. Ok (n, fs)))
 unfolding walk_from_root forest_frames
 node-root f s c at acc =
-    rw (bind_assoc (judged_at c s at) (walk_from (walk_within f s) (skip_within f s (c.level + 1)) c acc) (then_walk (λ n fs. Ok (n, fs))))
+    rw (bind_assoc (judged_at c s at) (walk_from (walk_within f s) (skip_within f s (c.level + 1)) c acc)
+    (then_walk (λ n fs. Ok (n, fs))))
     (by_step (Gives c acc) (FoundJudged c) (found_at s at) (judged_at c s at) _ _ (judged-is c s at)
     (λ x y e. walk-stand f s (walk_is f s) c (λ n fs. Ok (n, fs)) (λ n. Ok (none, n)) (λ n acc. refl) acc x y e))

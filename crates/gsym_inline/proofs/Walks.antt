@@ -1,12 +1,13 @@
 -- One frame more, and what is left of a list of judged nodes, one node on.
 -- Assumes nothing.
-use Rattle.std.proofs.Common.{Ok, Err, ℕ, ◌<◌, ◌≤◌, List, [], ◌∷◌, ◌++◌, append-nil, ◌≡◌, refl, ◌∙◌, length, length-append, arith, eq-eqb, ne_eqb, le-leb}
+use Rattle.std.proofs.Common.{Ok, Err, ℕ, ◌<◌, ◌≤◌, List, [], ◌∷◌, ◌++◌, append-nil, ◌≡◌, refl, ◌∙◌, length}
+use Rattle.std.proofs.Common.{length-append, arith, eq-eqb, ne_eqb, le-leb}
 use Rattle.std.proofs.lemmas.Bool.{lt-leb}
 use Rattle.gsym_types.specs.declared.InlineFrame.{InlineFrame}
 use Rattle.gsym_inline.specs.Walk.{with_frame, then_walk, walk_list, walk_node}
 use Rattle.gsym_inline.specs.declared.head.Fault.{Fault}
 use Rattle.gsym_inline.specs.declared.head.Fault.TheVariants.{Room}
-use Rattle.gsym_inline.specs.View.{View}
+use Rattle.gsym_inline.specs.Inherited.{Inherited}
 use Rattle.gsym_inline.specs.declared.skipping.Next.TheVariants as after
 use Rattle.gsym_inline.proofs.Fuel.{walk_step}
 
@@ -31,7 +32,7 @@ module _ (room : ℕ) (f : InlineFrame) (xs : List InlineFrame) where
 
 -- ---- a list
 
-module _ (s : List ℕ) (c : View) (to : ℕ) (xs : List InlineFrame) where
+module _ (s : List ℕ) (c : Inherited) (to : ℕ) (xs : List InlineFrame) where
   pub walk_end :
       (n : ℕ) (ys : List InlineFrame) → walk_node s c to xs ≡ Ok (after.End n, ys) → walk_list s c to xs ≡ Ok (n, ys)
   unfolding then_walk

@@ -5,10 +5,11 @@ use Rattle.gsym_reads.specs.Steps.{◌>>=◌, told}
 use Rattle.gsym_types.specs.declared.InlineFrame.{InlineFrame}
 use Rattle.gsym_types.specs.declared.Refusal.{Refusal}
 use Rattle.gsym_types.specs.declared.Refusal.TheVariants as refused
+use Rattle.gsym_inline.specs.Limits.{most_frames}
 use Rattle.gsym_inline.specs.Walk.{walk_node}
 use Rattle.gsym_inline.specs.declared.head.Fault.{Fault}
 use Rattle.gsym_inline.specs.declared.head.Fault.TheVariants as fault
-use Rattle.gsym_inline.specs.View.{View}
+use Rattle.gsym_inline.specs.Inherited.{Inherited}
 
 abbrev pub Block : Type 0
 Block = Result (List InlineFrame) Refusal
@@ -22,7 +23,7 @@ refusal_of fault.Level = refused.TooDeep
 refusal_of fault.Room = refused.TooManyFrames
 
 -- the root stands on level 1, and its offsets count from the symbol's address
-abbrev pub root_context : (symbol addr room : ℕ) → View
+abbrev pub root_context : (symbol addr room : ℕ) → Inherited
 root_context symbol addr room = record { level = 1; addr = addr; base = symbol; room = room }
 
 -- one block in one pass: its frames, or what comes first in reading order. A list's end instead of the root is an empty
@@ -34,7 +35,7 @@ block_of symbol addr room bytes = do
 
 -- how many frames there may be where a list of so many places is lent
 abbrev pub room_of : ℕ → ℕ
-room_of lent = min 64 lent
+room_of lent = min most_frames lent
 
 -- what `block_in` answers, with the frames in the list afterwards
 abbrev pub listing : Result Unit Refusal → List InlineFrame → Block

@@ -37,36 +37,40 @@ root_over_leaf root = root_named root ++ leaf ++ (0x00 ∷ [])
 
 -- both contain 0x1005
 pub t9 : block_of 0x1000 0x1005 64 (root_over_leaf 1) ≡ Ok (frame 1 0 0 ∷ frame 5 1 10 ∷ [])
-unfolding byte_front u32_front u8_at u32_at digits unsigned unsigned_at in_range any_in first_off range_at ranges_at rest_at past_ranges
-    rest_head node_head head_at judged_range judged_ranges judged_rest judged_node judged_at past_node then_skip skip_within
-    skip_list with_frame open_node closed_node walk_from then_walk walk_within walk_list walk_node block_of
+unfolding byte_front u32_front u8_at u32_at digits unsigned unsigned_at in_range any_in first_off range_at ranges_at
+    rest_at past_ranges rest_head node_head head_at judged_range judged_ranges judged_rest judged_node judged_at
+    past_node then_skip skip_within skip_list with_frame open_node closed_node walk_from then_walk walk_within walk_list
+    walk_node block_of
 t9 = refl
 
 -- only the root contains 0x100c
 pub t10 : block_of 0x1000 0x100c 64 (root_over_leaf 1) ≡ Ok (frame 1 0 0 ∷ [])
-unfolding byte_front u32_front u8_at u32_at digits unsigned unsigned_at in_range any_in first_off range_at ranges_at rest_at past_ranges
-    rest_head node_head head_at judged_range judged_ranges judged_rest judged_node judged_at past_node then_skip skip_within
-    skip_list with_frame open_node closed_node walk_from then_walk walk_within walk_list walk_node block_of
+unfolding byte_front u32_front u8_at u32_at digits unsigned unsigned_at in_range any_in first_off range_at ranges_at
+    rest_at past_ranges rest_head node_head head_at judged_range judged_ranges judged_rest judged_node judged_at
+    past_node then_skip skip_within skip_list with_frame open_node closed_node walk_from then_walk walk_within walk_list
+    walk_node block_of
 t10 = refl
 
 -- the root has no name
 pub t11 : block_of 0x1000 0x1005 64 (root_over_leaf 0) ≡ Ok (frame 5 1 10 ∷ [])
-unfolding byte_front u32_front u8_at u32_at digits unsigned unsigned_at in_range any_in first_off range_at ranges_at rest_at past_ranges
-    rest_head node_head head_at judged_range judged_ranges judged_rest judged_node judged_at past_node then_skip skip_within
-    skip_list with_frame open_node closed_node walk_from then_walk walk_within walk_list walk_node block_of
+unfolding byte_front u32_front u8_at u32_at digits unsigned unsigned_at in_range any_in first_off range_at ranges_at
+    rest_at past_ranges rest_head node_head head_at judged_range judged_ranges judged_rest judged_node judged_at
+    past_node then_skip skip_within skip_list with_frame open_node closed_node walk_from then_walk walk_within walk_list
+    walk_node block_of
 t11 = refl
 
 -- `00`
 pub t12 : block_of 0x1000 0x1005 64 (0x00 ∷ []) ≡ Ok []
-unfolding byte_front u32_front u8_at u32_at digits unsigned unsigned_at in_range any_in first_off range_at ranges_at rest_at past_ranges
-    rest_head node_head head_at judged_range judged_ranges judged_rest judged_node judged_at past_node then_skip skip_within
-    skip_list with_frame open_node closed_node walk_from then_walk walk_within walk_list walk_node block_of
+unfolding byte_front u32_front u8_at u32_at digits unsigned unsigned_at in_range any_in first_off range_at ranges_at
+    rest_at past_ranges rest_head node_head head_at judged_range judged_ranges judged_rest judged_node judged_at
+    past_node then_skip skip_within skip_list with_frame open_node closed_node walk_from then_walk walk_within walk_list
+    walk_node block_of
 t12 = refl
 
 -- ---- offsets other than 0
 
--- for the symbol 0x1000: a root of the name 1 on 0x1010 to 0x104f and on 0x1080 to 0x108f; below it a node of the name 2
--- on 0x1018 to 0x1027, counted from 0x1010; and below that one of the name 3 on 0x101c to 0x101f, counted from 0x1018
+-- for the symbol 0x1000: a root of the name 1 on 0x1010 to 0x104f and on 0x1080 to 0x108f; below it a node of the name
+-- 2 on 0x1018 to 0x1027, counted from 0x1010; and below that one of the name 3 on 0x101c to 0x101f, counted from 0x1018
 abbrev pub apart : List ℕ
 apart =
     (0x02 ∷ 0x10 ∷ 0x40 ∷ 0x80 ∷ 0x01 ∷ 0x10 ∷ 0x01 ∷ 0x01 ∷ 0x00 ∷ 0x00 ∷ 0x00 ∷ 0x00 ∷ 0x00 ∷ [])
@@ -86,12 +90,12 @@ called_on line = block_of 0x1000 0x1005 64
 
 -- ---- as many frames as there may be
 
-abbrev pub four : List ℕ → List ℕ
-four xs = xs ++ xs ++ xs ++ xs
+abbrev pub four_times : List ℕ → List ℕ
+four_times xs = xs ++ xs ++ xs ++ xs
 
 -- 64 leaves below a root of the name `root`
 abbrev pub family : ℕ → List ℕ
-family root = root_named root ++ four (four (four leaf)) ++ (0x00 ∷ [])
+family root = root_named root ++ four_times (four_times (four_times leaf)) ++ (0x00 ∷ [])
 
 -- a list of so many places lent for them
 abbrev pub lent : ℕ → ℕ → Block

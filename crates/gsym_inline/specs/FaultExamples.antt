@@ -1,5 +1,5 @@
--- Blocks that don't read, each with what its first fault is refused with: some for each refusal of a block, and for faults that
--- follow one another in the order of RULES ("Inline tree"). The bytes are written out.
+-- Blocks that don't read, each with what its first fault is refused with: some for each refusal of a block, and for
+-- faults that follow one another in the order of RULES ("Inline tree"). The bytes are written out.
 -- Assumes nothing.
 use Rattle.std.specs.Prelude.{Err, ℕ, List, [], ◌∷◌, ◌++◌, map, ◌≡◌, replicate}
 use Rattle.gsym_types.specs.declared.Refusal.{Refusal}
@@ -11,7 +11,7 @@ use Rattle.gsym_types.specs.declared.Refusal.TheVariants.{
   TooManyFrames,
 }
 use Rattle.gsym_inline.specs.Block.{Block, block_of}
-use Rattle.gsym_inline.specs.Examples.{four}
+use Rattle.gsym_inline.specs.Examples.{four_times}
 
 -- a block at an address, and what it is refused with
 pub record Case : Type 0 where
@@ -54,7 +54,7 @@ abbrev pub with_children : List ℕ
 with_children = low_range ++ byte_and_name 1 ++ (0x00 ∷ 0x00 ∷ [])
 
 abbrev pub deep : List ℕ
-deep = four (four (four with_children))
+deep = four_times (four_times (four_times with_children))
 
 abbrev pub cases : List Case
 cases =

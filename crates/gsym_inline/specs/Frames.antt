@@ -43,4 +43,5 @@ named n = if n.name == 0 then [] else frame_of n ∷ []
 unfoldable pub frames : ℕ → ℕ → Forest → List InlineFrame
 frames addr base none = []
 frames addr base (tree n children rest) =
-    (if any_in addr base n.ranges then named n ++ frames addr (child_base base n) children else []) ++ frames addr base rest
+    (if any_in addr base n.ranges then named n ++ frames addr (child_base base n) children else [])
+    ++ frames addr base rest

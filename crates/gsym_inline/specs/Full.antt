@@ -7,14 +7,14 @@ use Rattle.gsym_reads.specs.Steps.{◌>>=◌}
 use Rattle.gsym_leb128.specs.declared.Cause.{Cause}
 use Rattle.gsym_leb128.specs.declared.Cause.TheVariants.{Short}
 use Rattle.gsym_inline.specs.Tree.{Forest, none, tree}
-use Rattle.gsym_inline.specs.Head.{Found, end, node, found_at}
+use Rattle.gsym_inline.specs.Head.{EndOrNode, end, node, found_at}
 
 -- nodes side by side, and the place after them
 abbrev pub Read : Type 0
 Read = Result (Forest × ℕ) Cause
 
 -- from what is found at a place, with `children` for a list of children and `go` for what comes after a node
-unfoldable pub read_from : (ℕ → Read) → (ℕ → Read) → Found → Read
+unfoldable pub read_from : (ℕ → Read) → (ℕ → Read) → EndOrNode → Read
 read_from children go (end n) = Ok (none, n)
 read_from children go (node self byte next) = do
   (below, m) ← if byte == 0 then Ok (none, next) else children next

@@ -94,11 +94,11 @@ whole_at s count first = do
 
 -- what is found at a place: a list's end and the place after it; or a node, its children byte, and the place after its
 -- head
-pub data Found : Type 0 where
-  end : ℕ → Found
-  node : Node → (children next : ℕ) → Found
+pub data EndOrNode : Type 0 where
+  end : ℕ → EndOrNode
+  node : Node → (children next : ℕ) → EndOrNode
 
-unfoldable pub found_at : List ℕ → ℕ → Result Found Cause
+unfoldable pub found_at : List ℕ → ℕ → Result EndOrNode Cause
 found_at s at = do
   (count, first) ← unsigned_at s at
   if count == 0 then Ok (end first) else do
@@ -142,8 +142,8 @@ head_at s level at = do
     h ← node_head s level count first
     Ok (head.Node h)
 
--- where reading goes on after a head, of a node at `next`: further on, within `len` bytes; and a node stands on no level
--- below the deepest
+-- where reading goes on after a head, of a node at `next`: further on, within `len` bytes; and a node stands on no
+-- level below the deepest
 abbrev pub GoesOn : {T : Type 0} → Result (Head T) Fault → (next : T → ℕ) → (level at len : ℕ) → Type 0
 GoesOn (Ok (head.End n)) next level at len = (at < n) × (n ≤ len)
 GoesOn (Ok (head.Node h)) next level at len = (at < next h) × (next h ≤ len) × (level ≤ deepest_level)

@@ -34,7 +34,7 @@ use Rattle.gsym_inline.specs.Tree.{Range}
 use Rattle.gsym_inline.specs.Frames.{in_range, any_in, first_off, frame}
 use Rattle.gsym_inline.specs.declared.head.Fault.{Fault}
 use Rattle.gsym_inline.specs.declared.head.Fault.TheVariants.{Unread, Level, Sum, CallFile}
-use Rattle.gsym_inline.specs.View.{View}
+use Rattle.gsym_inline.specs.Inherited.{Inherited}
 use Rattle.gsym_inline.specs.declared.judge.JudgedNode.{JudgedNode}
 use Rattle.gsym_inline.specs.declared.head.Head.{Head}
 use Rattle.gsym_inline.specs.declared.head.Head.TheVariants as head
@@ -73,29 +73,29 @@ judged_rest start inside s at = do
   })
 
 -- what follows the range count
-unfoldable pub judged_node : View → List ℕ → ℕ → ℕ → Result JudgedNode Fault
+unfoldable pub judged_node : Inherited → List ℕ → ℕ → ℕ → Result JudgedNode Fault
 judged_node c s count at = do
   need (nat_le c.level deepest_level) Level
   (rs, m) ← judged_ranges c.base count s at
   judged_rest (c.base + first_off rs) (any_in c.addr c.base rs) s m
 
 -- what stands at a place, judged
-unfoldable pub judged_at : View → List ℕ → ℕ → Result (Head JudgedNode) Fault
+unfoldable pub judged_at : Inherited → List ℕ → ℕ → Result (Head JudgedNode) Fault
 judged_at c s at = do
   (count, first) ← told Unread (unsigned_at s at)
   if count == 0 then Ok (head.End first) else do
     node ← judged_node c s count first
     Ok (head.Node node)
 
--- ---- ranges as the code keeps them: the place after them, the start of the first, and whether one of them contains the
--- address
+-- ---- ranges as the code keeps them: the place after them, the start of the first, and whether one of them contains
+-- the address
 
-unfoldable pub span_of : View → Result (Range × ℕ) Fault → Result (ℕ × ℕ × Bool) Fault
+unfoldable pub span_of : Inherited → Result (Range × ℕ) Fault → Result (ℕ × ℕ × Bool) Fault
 span_of c x = do
   (r, n) ← x
   Ok (n, c.base + r.off, in_range c.addr c.base r)
 
-unfoldable pub spans_of : View → Result (List Range × ℕ) Fault → Result (ℕ × ℕ × Bool) Fault
+unfoldable pub spans_of : Inherited → Result (List Range × ℕ) Fault → Result (ℕ × ℕ × Bool) Fault
 spans_of c x = do
   (rs, n) ← x
   Ok (n, c.base + first_off rs, any_in c.addr c.base rs)

@@ -3,7 +3,7 @@ pub mod Tree
 pub mod Frames
 pub mod Paths
 pub mod Head
-pub mod View
+pub mod Inherited
 pub mod Judge
 pub mod Skip
 pub mod Walk

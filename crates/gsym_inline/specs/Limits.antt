@@ -17,3 +17,7 @@ most_line = 4294967295
 -- the deepest level that a node may stand on
 abbrev pub deepest_level : ℕ
 deepest_level = 64
+
+-- how many frames of a block there may be
+abbrev pub most_frames : ℕ
+most_frames = 64

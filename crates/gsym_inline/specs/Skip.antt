@@ -1,7 +1,7 @@
 -- Nodes that are passed over with all their descendants: only 10 and 13 apply to them (RULES, "Inline tree").
 --
--- Each node takes at least one byte, so that as many turns as bytes, and one to see the end, are enough: `skip_list` asks
--- for no number of turns, and proofs/Fuel.antt says that it is its first node and then the rest (`skip_step`).
+-- Each node takes at least one byte, so that as many turns as bytes, and one to see the end, are enough: `skip_list`
+-- asks for no number of turns, and proofs/Fuel.antt says that it is its first node and then the rest (`skip_step`).
 -- Assumes nothing.
 use Rattle.std.specs.Prelude.{Ok, Err, Result, ℕ, zero, suc, ◌+◌, ◌<◌, ◌≤◌, List, ◌==◌, length, if◌then◌else◌}
 use Rattle.gsym_reads.specs.Steps.{◌>>=◌}
@@ -15,7 +15,8 @@ use Rattle.gsym_inline.specs.declared.head.Head.TheVariants as head
 use Rattle.gsym_inline.specs.declared.skipping.Next.{Next}
 use Rattle.gsym_inline.specs.declared.skipping.Next.TheVariants as next
 
--- from its head a node and all below it, with `children` for its list of children: past it, or the list's end instead of it
+-- from its head a node and all below it, with `children` for its list of children: past it, or the list's end instead
+-- of it
 unfoldable pub past_node : (ℕ → Result ℕ Fault) → Head NodeHead → Result Next Fault
 past_node children (head.End n) = Ok (next.End n)
 past_node children (head.Node h) = do

@@ -1,5 +1,5 @@
--- The reading order of RULES ("Inline tree") as a list: a block as the steps of its reading. Each item that is read is a
--- step, and so is all that is judged, where RULES has it. The list says nothing of what is refused, and goes on past
+-- The reading order of RULES ("Inline tree") as a list: a block as the steps of its reading. Each item that is read is
+-- a step, and so is all that is judged, where RULES has it. The list says nothing of what is refused, and goes on past
 -- every fault but one: after an item that doesn't read nothing is known. specs/FirstFault.antt says which step is
 -- refused.
 --
@@ -36,20 +36,20 @@ use Rattle.gsym_inline.specs.Tree.{Range, Node}
 use Rattle.gsym_inline.specs.Frames.{any_in, child_base}
 
 -- the items of a node, in file order
-pub data Item : Type 0 where
-  range_count : Item
-  range_offset : Item
-  range_size : Item
-  children_byte : Item
-  node_name : Item
-  call_file : Item
-  call_line : Item
+pub data NodeItem : Type 0 where
+  range_count : NodeItem
+  range_offset : NodeItem
+  range_size : NodeItem
+  children_byte : NodeItem
+  node_name : NodeItem
+  call_file : NodeItem
+  call_line : NodeItem
 
--- an item is read, with its value, or doesn't read; a node stands on a level; a judged node's range starts and ends, and
--- its call file is known; a node is open
+-- an item is read, with its value, or doesn't read; a node stands on a level; a judged node's range starts and ends,
+-- and its call file is known; a node is open
 pub data Step : Type 0 where
-  read : Item → ℕ → Step
-  unread : Item → Cause → Step
+  read : NodeItem → ℕ → Step
+  unread : NodeItem → Cause → Step
   stands : ℕ → Step
   starts : ℕ → Step
   ends : ℕ → Step
@@ -59,7 +59,7 @@ pub data Step : Type 0 where
 -- ---- items
 
 -- the children byte is one byte, the name four, and the others are unsigned LEB128
-unfoldable pub item_at : Item → List ℕ → ℕ → Result (ℕ × ℕ) Cause
+unfoldable pub item_at : NodeItem → List ℕ → ℕ → Result (ℕ × ℕ) Cause
 item_at range_count s at = unsigned_at s at
 item_at range_offset s at = unsigned_at s at
 item_at range_size s at = unsigned_at s at
@@ -72,11 +72,11 @@ item_at node_name s at = do
 item_at call_file s at = unsigned_at s at
 item_at call_line s at = unsigned_at s at
 
-unfoldable pub with_item : Item → (ℕ → ℕ → List Step) → Result (ℕ × ℕ) Cause → List Step
+unfoldable pub with_item : NodeItem → (ℕ → ℕ → List Step) → Result (ℕ × ℕ) Cause → List Step
 with_item i go (Ok (v, n)) = read i v ∷ go v n
 with_item i go (Err k) = unread i k ∷ []
 
-abbrev pub item_steps : Item → List ℕ → ℕ → (ℕ → ℕ → List Step) → List Step
+abbrev pub item_steps : NodeItem → List ℕ → ℕ → (ℕ → ℕ → List Step) → List Step
 item_steps i s at go = with_item i go (item_at i s at)
 
 -- ---- which nodes are judged
@@ -124,9 +124,9 @@ children_steps list addr level mode rest self children next =
     let more = if children == 0 then rest next else list (level + 1) (children_mode addr mode self) next rest in
     if is_open addr mode self then opens self ∷ more else more
 
--- The order inside a node (RULES, "Inline tree"): the range count; the level; for each range its offset, size, start and
--- end; the children byte, the name, the call file and its limit, the call line; that it is open. A range count of 0 is
--- the end of the list, and `over` what comes after the list.
+-- The order inside a node (RULES, "Inline tree"): the range count; the level; for each range its offset, size, start
+-- and end; the children byte, the name, the call file and its limit, the call line; that it is open. A range count of 0
+-- is the end of the list, and `over` what comes after the list.
 unfoldable pub node_steps :
     (ℕ → Mode → ℕ → (ℕ → List Step) → List Step) → List ℕ → (addr level : ℕ) → Mode → (at : ℕ) →
     (over rest : ℕ → List Step) → List Step

@@ -28,7 +28,7 @@ use Rattle.gsym_inline.specs.Judge.{judged_at}
 use Rattle.gsym_inline.specs.Skip.{skip_within, skip_list}
 use Rattle.gsym_inline.specs.declared.head.Fault.{Fault}
 use Rattle.gsym_inline.specs.declared.head.Fault.TheVariants.{Unread, Room}
-use Rattle.gsym_inline.specs.View.{View}
+use Rattle.gsym_inline.specs.Inherited.{Inherited}
 use Rattle.gsym_inline.specs.declared.judge.JudgedNode.{JudgedNode}
 use Rattle.gsym_inline.specs.declared.head.Head.{Head}
 use Rattle.gsym_inline.specs.declared.head.Head.TheVariants as head
@@ -46,7 +46,7 @@ with_frame room f acc = do
   Ok (acc ++ counted f)
 
 -- one level down, with offsets that count from `base`
-abbrev pub below : View → ℕ → View
+abbrev pub below : Inherited → ℕ → Inherited
 below c base = record { level = c.level + 1; addr = c.addr; base = base; room = c.room }
 
 -- what is read: the place after it, or where reading goes on, and the frames so far
@@ -71,7 +71,8 @@ closed_node skips acc node = do
 
 -- what was judged and all below it, with `reads` for a list of judged nodes and `skips` for one that is passed over
 unfoldable pub walk_from :
-    (View → ℕ → List InlineFrame → Places) → (ℕ → Result ℕ Fault) → View → List InlineFrame → Head JudgedNode → Walk
+    (Inherited → ℕ → List InlineFrame → Places) → (ℕ → Result ℕ Fault) → Inherited → List InlineFrame →
+    Head JudgedNode → Walk
 walk_from reads skips c acc (head.End n) = Ok (next.End n, acc)
 walk_from reads skips c acc (head.Node node) =
     if node.inside then open_node (reads (below c node.base)) c.room acc node else closed_node skips acc node
@@ -82,7 +83,7 @@ then_walk go (next.End n, acc) = Ok (n, acc)
 then_walk go (next.Past n, acc) = go n acc
 
 -- a list of judged nodes from a place on, with the frames so far, in so many turns
-unfoldable pub walk_within : ℕ → List ℕ → View → ℕ → List InlineFrame → Places
+unfoldable pub walk_within : ℕ → List ℕ → Inherited → ℕ → List InlineFrame → Places
 walk_within zero s c at acc = Err (Unread Short)
 walk_within (suc turns) s c at acc = do
   head ← judged_at c s at
@@ -90,11 +91,11 @@ walk_within (suc turns) s c at acc = do
   then_walk (walk_within turns s c) after
 
 -- a list of judged nodes from a place on, with the frames so far
-unfoldable pub walk_list : List ℕ → View → ℕ → List InlineFrame → Places
+unfoldable pub walk_list : List ℕ → Inherited → ℕ → List InlineFrame → Places
 walk_list s c at acc = walk_within (suc (length s)) s c at acc
 
 -- one judged node with all below it
-unfoldable pub walk_node : List ℕ → View → ℕ → List InlineFrame → Walk
+unfoldable pub walk_node : List ℕ → Inherited → ℕ → List InlineFrame → Walk
 walk_node s c at acc = do
   head ← judged_at c s at
   walk_from (walk_list s) (skip_list s (c.level + 1)) c acc head

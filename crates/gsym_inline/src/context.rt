@@ -1,4 +1,5 @@
-//! What goes down the tree. It stands in a file of its own, since a struct with a ghost field imports what its file does.
+//! What goes down the tree. It stands in a file of its own, since a struct with a ghost field imports what its file
+//! does.
 ghost use Rattle.std.specs.Prelude.{◌≤◌};
 
 /// What goes down the tree: the level of the nodes in hand, 1 for the root; the address asked for; where their offsets
@@ -10,5 +11,5 @@ pub(crate) struct Context {
     pub base: u64,
     pub room: usize,
     // as many as a list of frames has places
-    ghost capped: { room ≤ 64 },
+    ghost bounded: { room ≤ 64 },
 }

@@ -1,5 +1,5 @@
-//! A node's head, read with no address in mind: what it says and where its parts stand (RULES, "Inline tree"). Judging it
-//! at an address is left to `judge`.
+//! A node's head, read with no address in mind: what it says and where its parts stand (RULES, "Inline tree"). Judging
+//! it at an address is left to `judge`.
 ghost use Rattle.std.specs.Prelude.{◌≡◌, ◌+◌, ◌≤◌, OnOk, length, min};
 ghost use Rattle.gsym_inline.specs.declared.head.Fault.TheVariants.{Unread};
 ghost use Rattle.gsym_inline.specs.Limits.{most_line};
@@ -104,8 +104,8 @@ pub(crate) fn children_and_name(s: &[u8], at: usize) -> Result<(u8, u32), Cause>
     Ok((s[at], name))
 }
 
-// What follows the ranges of a node, of which there are `ranges` from `first` on. As a part of `node_head` its last read
-// would be compiled as a call.
+// What follows the ranges of a node, of which there are `ranges` from `first` on. As a part of `node_head` its last
+// read would be compiled as a call.
 #[tactic(auto, unfolding(crate::specs::Head::rest_head, crate::specs::Head::rest_at, crate::specs::Head::children_and_name))]
 fn head_tail(s: &[u8], ranges: u64, first: usize, at: usize) -> Result<NodeHead, Fault>
     ensures { result ≡ rest_head ranges first s.now at }

@@ -1,9 +1,10 @@
-//! A node's head judged at an address (RULES, "Inline tree", "Order inside a node"): what comes first of 10 to 13, or what
-//! the node comes to. Frames and children are left to `walk`.
+//! A node's head judged at an address (RULES, "Inline tree", "Order inside a node"): what comes first of 10 to 13, or
+//! what the node comes to. Frames and children are left to `walk`.
 ghost use Rattle.std.specs.Prelude.{◌≡◌, true, false, nat_le, nat_lt, length, if◌then◌else◌};
 ghost use Rattle.gsym_inline.specs.Head.{GoesOn};
-ghost use Rattle.gsym_inline.specs.Judge.{judged_range, judged_ranges, judged_rest, judged_node, judged_at, span_of, spans_of};
-ghost use Rattle.gsym_inline.specs.View.{view};
+ghost use Rattle.gsym_inline.specs.Judge.{judged_range, judged_ranges, judged_rest, judged_node, judged_at, span_of};
+ghost use Rattle.gsym_inline.specs.Judge.{spans_of};
+ghost use Rattle.gsym_inline.specs.Inherited.{inherited_of};
 
 use super::context::Context;
 use super::head::{DEEPEST_LEVEL, Fault, Head, capped, children_and_name};
@@ -36,7 +37,7 @@ fn contains(start: u64, end: u64, addr: u64) -> bool
 // address.
 #[tactic(auto, unfolding(crate::specs::Judge::span_of, crate::specs::Judge::judged_range, crate::specs::Frames::in_range))]
 fn range(s: &[u8], context: Context, at: usize) -> Result<(usize, u64, bool), Fault>
-    ensures { result ≡ span_of (view context) (judged_range context.base s.now at) }
+    ensures { result ≡ span_of (inherited_of context) (judged_range context.base s.now at) }
 {
     let (off, m) = unsigned_at(s, at)?;
     let (size, n) = unsigned_at(s, m)?;
@@ -47,7 +48,7 @@ fn range(s: &[u8], context: Context, at: usize) -> Result<(usize, u64, bool), Fa
 
 // All ranges of a node: the place after them, the start of the first, and whether one of them contains the address.
 fn ranges(s: &[u8], context: Context, count: u64, at: usize) -> Result<(usize, u64, bool), Fault>
-    ensures { result ≡ spans_of (view context) (judged_ranges context.base count s.now at) }
+    ensures { result ≡ spans_of (inherited_of context) (judged_ranges context.base count s.now at) }
 {
     let mut to = at;
     let mut first = context.base;
@@ -92,7 +93,7 @@ fn judge_tail(s: &[u8], start: u64, inside: bool, at: usize) -> Result<JudgedNod
 // A node after its range count: its level, its ranges, and what follows them.
 #[tactic(auto, unfolding(crate::specs::Judge::judged_node, crate::specs::Judge::spans_of))]
 fn judge_node(s: &[u8], context: Context, count: u64, at: usize) -> Result<JudgedNode, Fault>
-    ensures { result ≡ judged_node (view context) s.now count at }
+    ensures { result ≡ judged_node (inherited_of context) s.now count at }
 {
     if DEEPEST_LEVEL < context.level {
         return Err(Fault::Level);
@@ -104,7 +105,7 @@ fn judge_node(s: &[u8], context: Context, count: u64, at: usize) -> Result<Judge
 // What stands at the place `at`, where a judged node is looked for.
 #[tactic(auto, unfolding(crate::specs::Judge::judged_at))]
 pub(crate) fn judge_at(s: &[u8], context: Context, at: usize) -> Result<Head<JudgedNode>, Fault>
-    ensures exact { result ≡ judged_at (view context) s.now at }
+    ensures exact { result ≡ judged_at (inherited_of context) s.now at }
     ensures onward { GoesOn result (λ node. node.next) context.level at (length s.now) }
 {
     let (count, first) = unsigned_at(s, at)?;

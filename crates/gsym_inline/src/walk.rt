@@ -3,7 +3,7 @@
 ghost use Rattle.std.specs.Prelude.{◌≡◌, ◌≤◌, length};
 ghost use Rattle.gsym_inline.specs.Skip.{Onward, PlaceOnward};
 ghost use Rattle.gsym_inline.specs.Walk.{with_frame, with_frames, walk_list, walk_node, Added};
-ghost use Rattle.gsym_inline.specs.View.{view};
+ghost use Rattle.gsym_inline.specs.Inherited.{inherited_of};
 
 use super::Frames;
 use super::context::Context;
@@ -41,7 +41,7 @@ pub(crate) fn node(
 ) -> Result<Next, Fault>
     // of two arguments, so that no type says it
     requires { length frames.old.items ≤ context.room }
-    ensures exact { with_frames result frames.new.items ≡ walk_node s.now (view context) at frames.old.items }
+    ensures exact { with_frames result frames.new.items ≡ walk_node s.now (inherited_of context) at frames.old.items }
     ensures fits { length frames.new.items ≤ context.room }
     ensures onward { Onward at (length s.now) result }
 {
@@ -82,7 +82,7 @@ pub(crate) fn children(
 ) -> Result<usize, Fault>
     // of two arguments, so that no type says it
     requires { length frames.old.items ≤ context.room }
-    ensures exact { with_frames result frames.new.items ≡ walk_list s.now (view context) at frames.old.items }
+    ensures exact { with_frames result frames.new.items ≡ walk_list s.now (inherited_of context) at frames.old.items }
     ensures fits { length frames.new.items ≤ context.room }
     ensures onward { PlaceOnward at (length s.now) result }
 {

@@ -1,6 +1,7 @@
 -- Which bytes a number depends on, and when the bytes end before it does.
 -- Assumes nothing.
-use Rattle.std.proofs.Common.{◌≡◌, ℕ, zero, suc, ◌^◌, ◌<◌, ◌≤◌, ◌↔◌, Bool, true, false, List, [], ◌∷◌, ◌++◌, All, length, take, drop, nat_lt, ℤ, sym, ap, ◌∙◌, ⊎_elim, arith, Ok, Err, Result}
+use Rattle.std.proofs.Common.{◌≡◌, ℕ, zero, suc, ◌^◌, ◌<◌, ◌≤◌, ◌↔◌, Bool, true, false, List, [], ◌∷◌, ◌++◌, All}
+use Rattle.std.proofs.Common.{length, take, drop, nat_lt, ℤ, sym, ap, ◌∙◌, ⊎_elim, arith, Ok, Err, Result}
 use Rattle.std.proofs.lemmas.Bool.{cases_lt}
 use lib.Signed.{mag}
 use Rattle.gsym_reads.specs.Steps.{◌>>=◌, ◌>>◌, need}
@@ -82,13 +83,19 @@ judged-short false x e = absurd (cc)
 module _ (bs : List ℕ) where
   unsigned-short : unsigned bs ≡ Err Short ↔ EndsEarly bs
   unfolding unsigned
-  unsigned-short =
-      (λ e. short-asks 10 bs (then-short (digits 10 bs) _ (λ p q. judged-short (nat_lt p.0 (2 ^ 64)) p q) e), λ a. rw (asks-short 10 bs a))
+  unsigned-short = (
+    λ e. short-asks 10 bs (then-short (digits 10 bs) _ (λ p q. judged-short (nat_lt p.0 (2 ^ 64)) p q) e),
+    λ a. rw (asks-short 10 bs a),
+  )
 
   signed-short : signed bs ≡ Err Short ↔ EndsEarly bs
   unfolding signed
-  signed-short =
-      (λ e. short-asks 10 bs (then-short (digits 10 bs) _ (λ p q. judged-short (nat_lt (mag (complement p.0 p.1)) (2 ^ 63)) (complement p.0 p.1, p.1) q) e), λ a. rw (asks-short 10 bs a))
+  signed-short = (
+    λ e. short-asks 10 bs
+        (then-short (digits 10 bs) _
+        (λ p q. judged-short (nat_lt (mag (complement p.0 p.1)) (2 ^ 63)) (complement p.0 p.1, p.1) q) e),
+    λ a. rw (asks-short 10 bs a),
+  )
 
 module _ (s : List ℕ) (at : ℕ) where
   pub unsigned_at_short : (unsigned_at s at ≡ Err Short) ↔ EndsEarly (drop at s)

@@ -1,6 +1,7 @@
 -- A number at a place: where reading goes on, and that this is what reading at the front of the bytes there gives.
 -- Assumes nothing.
-use Rattle.std.proofs.Common.{◌≡◌, ℕ, ◌+◌, ◌^◌, ◌<◌, ◌≤◌, List, length, drop, ℤ, sym, refl, ap, ◌∙◌, arith, length-drop, drop-drop, subst, ◌↔◌, IfOk, Ok, Err, Result}
+use Rattle.std.proofs.Common.{◌≡◌, ℕ, ◌+◌, ◌^◌, ◌<◌, ◌≤◌, List, length, drop, ℤ, sym, refl, ap, ◌∙◌, arith, length-drop}
+use Rattle.std.proofs.Common.{drop-drop, subst, ◌↔◌, IfOk, Ok, Err, Result}
 use lib.Signed.{mag}
 use Rattle.gsym_reads.specs.Steps.{◌>>=◌}
 use Rattle.gsym_reads.specs.Fronts.{ReadsTo}

@@ -1,6 +1,7 @@
 -- What `unsigned_at` answers, from what it has read: one law for each way out.
 -- Assumes nothing.
-use Rattle.std.proofs.Common.{◌≡◌, ℕ, ◌+◌, ◌*◌, ◌^◌, ◌<◌, ◌≤◌, ◌⊎◌, List, length, get_or, drop, ap, ⊎_elim, mul-le-mul_right, arith, le-ltb, lt-ltb, Ok, Err}
+use Rattle.std.proofs.Common.{◌≡◌, ℕ, ◌+◌, ◌*◌, ◌^◌, ◌<◌, ◌≤◌, ◌⊎◌, List, length, get_or, drop, ap, ⊎_elim}
+use Rattle.std.proofs.Common.{mul-le-mul_right, arith, le-ltb, lt-ltb, Ok, Err}
 use Rattle.gsym_leb128.specs.declared.Cause.TheVariants.{Short, Wide}
 use Rattle.gsym_leb128.specs.Leb.{digits, unsigned}
 use Rattle.gsym_leb128.specs.Answers.{unsigned_at}

@@ -1,6 +1,8 @@
 -- What `signed_at` answers, from what it has read: one law for each way out.
 -- Assumes nothing.
-use Rattle.std.proofs.Common.{◌≡◌, ℕ, zero, suc, ◌+◌, ◌-◌, ◌*◌, ◌%◌, ◌^◌, ◌<◌, ◌≤◌, ◌⊎◌, List, length, get_or, drop, ℤ, pos, negsuc, ◌-ℤ◌, sym, ap, ◌∙◌, inl, inr, ⊎_elim, mul-le-mul_right, mul_comm, add-mul, pow-suc, add-one, arith, w64, to_z, of_z, le-ltb, lt-ltb, Ok, Err, Result, nat_lt}
+use Rattle.std.proofs.Common.{◌≡◌, ℕ, zero, suc, ◌+◌, ◌-◌, ◌*◌, ◌%◌, ◌^◌, ◌<◌, ◌≤◌, ◌⊎◌, List, length, get_or, drop, ℤ}
+use Rattle.std.proofs.Common.{pos, negsuc, ◌-ℤ◌, sym, ap, ◌∙◌, inl, inr, ⊎_elim, mul-le-mul_right, mul_comm, add-mul}
+use Rattle.std.proofs.Common.{pow-suc, add-one, arith, w64, to_z, of_z, le-ltb, lt-ltb, Ok, Err, Result, nat_lt}
 use Rattle.gsym_leb128.specs.declared.Cause.{Cause}
 use Rattle.gsym_leb128.specs.declared.Cause.TheVariants.{Short, Wide}
 use lib.Signed.{mag}

@@ -1,6 +1,7 @@
 -- What a number that reads keeps to: it takes one to ten of the bytes there, and its value is in range.
 -- Assumes nothing.
-use Rattle.std.proofs.Common.{◌≡◌, ℕ, zero, suc, ◌^◌, ◌<◌, ◌≤◌, List, [], ◌∷◌, length, ℤ, sym, ap, ◌∙◌, ⊎_elim, arith, ltb-true, Ok, Result}
+use Rattle.std.proofs.Common.{◌≡◌, ℕ, zero, suc, ◌^◌, ◌<◌, ◌≤◌, List, [], ◌∷◌, length, ℤ, sym, ap, ◌∙◌, ⊎_elim, arith}
+use Rattle.std.proofs.Common.{ltb-true, Ok, Result}
 use Rattle.std.proofs.lemmas.Bool.{cases_lt}
 use lib.Signed.{mag}
 use Rattle.gsym_reads.proofs.Steps.{bind_ok, need_ok, ok_is}

@@ -1,6 +1,8 @@
 -- A loop over the bytes of a number: what it has read, one more byte, and its ways out.
 -- Assumes nothing.
-use Rattle.std.proofs.Common.{◌≡◌, ℕ, suc, ◌+◌, ◌-◌, ◌*◌, ◌^◌, ◌<◌, ◌≤◌, List, ◌∷◌, length, get_or, drop, refl, ap, ◌∙◌, mul_assoc, add-mul, pow-suc, add-one, arith, drop_of_length-le, drop-cons, Result, Ok, Err}
+use Rattle.std.proofs.Common.{◌≡◌, ℕ, suc, ◌+◌, ◌-◌, ◌*◌, ◌^◌, ◌<◌, ◌≤◌, List, ◌∷◌, length, get_or, drop, refl, ap, ◌∙◌}
+use Rattle.std.proofs.Common.{mul_assoc, add-mul, pow-suc, add-one, arith, drop_of_length-le, drop-cons, Result, Ok}
+use Rattle.std.proofs.Common.{Err}
 use Rattle.gsym_reads.specs.Steps.{◌>>=◌}
 use Rattle.gsym_leb128.specs.declared.Cause.{Cause}
 use Rattle.gsym_leb128.specs.declared.Cause.TheVariants.{Short, Wide}

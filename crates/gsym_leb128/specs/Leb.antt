@@ -3,7 +3,8 @@
 --   byte below 128   its last seven bits; the upper of them is the sign of a signed number
 -- The lowest seven bits come first. A number has at most ten bytes; those above what it needs are padding.
 -- Assumes nothing.
-use Rattle.std.specs.Prelude.{ℕ, zero, suc, ◌+◌, ◌-◌, ◌*◌, ◌^◌, List, [], ◌∷◌, ℤ, pos, ◌-ℤ◌, Result, Ok, Err, nat_lt, if◌then◌else◌}
+use Rattle.std.specs.Prelude.{ℕ, zero, suc, ◌+◌, ◌-◌, ◌*◌, ◌^◌, List, [], ◌∷◌, ℤ, pos, ◌-ℤ◌, Result, Ok, Err, nat_lt}
+use Rattle.std.specs.Prelude.{if◌then◌else◌}
 use Rattle.std.specs.Int.Signed.{mag}
 use Rattle.gsym_reads.specs.Steps.{◌>>=◌, ◌>>◌, need}
 use Rattle.gsym_leb128.specs.declared.Cause.{Cause}

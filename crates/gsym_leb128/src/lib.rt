@@ -18,11 +18,11 @@ pub enum Cause {
 // The weight of the tenth byte, 2^63.
 const TENTH: u64 = 0x8000_0000_0000_0000;
 
-// The largest tenth byte of an unsigned number: nine bytes have 63 bits, so it adds one bit, and asks for no other byte.
+// The largest tenth byte of an unsigned number: nine bytes have 63 bits, so it adds one, and asks for no other byte.
 const LARGEST_TENTH: u64 = 1;
 
-/// The unsigned number at `at`, which is below 2^64, and the place after it (RULES, "LEB128"). `Short` where the bytes end
-/// before the number does, `Wide` where it is outside 64 bits or its tenth byte asks for another.
+/// The unsigned number at `at`, which is below 2^64, and the place after it (RULES, "LEB128"). `Short` where the bytes
+/// end before the number does, `Wide` where it is outside 64 bits or its tenth byte asks for another.
 pub fn unsigned_at(s: &[u8], at: usize) -> Result<(u64, usize), Cause>
     ensures exact { result ≡ unsigned_at s.now at }
     ensures front { ReadsTo s.now result (unsigned_front (drop at s.now)) }
@@ -65,12 +65,13 @@ pub fn signed_at(s: &[u8], at: usize) -> Result<(i64, usize), Cause>
     ensures past { IfOk result (λ read. at < read.1) }
     ensures short { (result ≡ Err Cause.Short) ↔ EndsEarly (drop at s.now) }
 {
-    // The value of the bytes passed, and the weight of the next one, as in `unsigned_at`. A loop that both share stays a
-    // call, and costs 1.38 of the line run's instructions (DECISIONS, D5).
+    // The value of the bytes passed, and the weight of the next one, as in `unsigned_at`. A loop that both share stays
+    // a call, and costs 1.38 of the line run's instructions (DECISIONS, D5).
     let mut low: u64 = 0;
     let mut weight: u64 = 1;
     let mut i = at;
     while i < s.len() && weight < TENTH {
+        // By `as`, here and in `unsigned_at`: with `u64::from` this function's proof didn't close.
         let b = s[i] as u64;
         let next = i + 1;
         if b < 128 {

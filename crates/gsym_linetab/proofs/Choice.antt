@@ -1,6 +1,7 @@
 -- The row that `row_among` gives is the one that RULES names.
 -- Assumes nothing.
-use Rattle.std.proofs.Common.{◌≡◌, ◌<◌, ◌≤◌, suc, List, [], ◌∷◌, ◌++◌, refl, sym, ap, subst, ◌∙◌, arith, le-ltb, lt-ltb, Some, None, Option, if◌then◌else◌}
+use Rattle.std.proofs.Common.{◌≡◌, ◌<◌, ◌≤◌, suc, List, [], ◌∷◌, ◌++◌, refl, sym, ap, subst, ◌∙◌, arith, le-ltb, lt-ltb}
+use Rattle.std.proofs.Common.{Some, None, Option, if◌then◌else◌}
 use Rattle.std.specs.List.{last_or}
 use Rattle.gsym_types.specs.declared.Address.{Address}
 use Rattle.gsym_linetab.specs.declared.LineTableRow.{LineTableRow}
@@ -62,7 +63,8 @@ module _ (ran : Run) (addr : Address) where
     ended = made;
   }
 
-pub chosen_from : (ran : Run) (addr : Address) (row : Option LineTableRow) → row ≡ row_in ran addr → IsRowFor ran addr row
+pub chosen_from :
+    (ran : Run) (addr : Address) (row : Option LineTableRow) → row ≡ row_in ran addr → IsRowFor ran addr row
 chosen_from ran addr row e = subst (IsRowFor ran addr) (sym e) (row_chosen ran addr)
 
 pub none_is : (ran : Run) (addr : Address) → ran.rows ≡ [] → None ≡ row_in ran addr

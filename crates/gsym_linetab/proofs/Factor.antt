@@ -1,6 +1,10 @@
 -- Division of a byte by a number from 1 to 255, as a product with that number's factor and a shift.
 -- Assumes nothing.
-use Rattle.std.proofs.Common.{◌≡◌, ℕ, suc, ◌+◌, ◌-◌, ◌*◌, ◌/◌, ◌%◌, ◌^◌, ◌<◌, ◌≤◌, sym, ap, ◌∙◌, subst, le_trans, le_of_eq, le_refl, lt_of_lt_of_le, lt_of_le_of_lt, mul-le-mul_right, mul_assoc, lt-suc_self, add-lt-add_of_le_of_lt, suc-mul, div-lt_iff_lt-mul, lt_of_mul-lt-mul_right, mul-le-mul_left, div-add-mod', mul-add, div-le_self, mul_right_comm, div-mul-le_self, add-one, arith}
+use Rattle.std.proofs.Common.{◌≡◌, ℕ, suc, ◌+◌, ◌-◌, ◌*◌, ◌/◌, ◌%◌, ◌^◌, ◌<◌, ◌≤◌, sym, ap, ◌∙◌, subst, le_trans}
+use Rattle.std.proofs.Common.{le_of_eq, le_refl, lt_of_lt_of_le, lt_of_le_of_lt, mul-le-mul_right, mul_assoc}
+use Rattle.std.proofs.Common.{lt-suc_self, add-lt-add_of_le_of_lt, suc-mul, div-lt_iff_lt-mul, lt_of_mul-lt-mul_right}
+use Rattle.std.proofs.Common.{mul-le-mul_left, div-add-mod', mul-add, div-le_self, mul_right_comm, div-mul-le_self}
+use Rattle.std.proofs.Common.{add-one, arith}
 use native.Mathlib.Nat.{lt-div-mul-add, div-eq_of_lt-le}
 
 -- ---- n / d is the quotient of n * m by w, where m * d is at least w and exceeds it by at most e, and n * e is below w

@@ -1,6 +1,7 @@
 -- Reading goes on, and stays within the bytes: an opcode's, and the header's.
 -- Assumes nothing.
-use Rattle.std.proofs.Common.{◌≡◌, ℕ, ◌+◌, ◌<◌, ◌≤◌, Bool, true, false, eqb, List, length, of_z, sym, refl, ap, ◌∙◌, subst, ⊎_elim, arith, Ok, Err, Result, Option, Some, None, if◌then◌else◌}
+use Rattle.std.proofs.Common.{◌≡◌, ℕ, ◌+◌, ◌<◌, ◌≤◌, Bool, true, false, eqb, List, length, of_z, sym, refl, ap, ◌∙◌}
+use Rattle.std.proofs.Common.{subst, ⊎_elim, arith, Ok, Err, Result, Option, Some, None, if◌then◌else◌}
 use Rattle.std.specs.Prelude.{◌%◌, ◌^◌, pos, ◌+ℤ◌, int_div, int_rem, not}
 use Rattle.std.specs.Int.{w64, int_wrap}
 use Rattle.std.specs.Ordering.{int_eq}
@@ -72,7 +73,8 @@ module _ (at len : ℕ) where
   a_row-ahead (Ok t) p = p
   a_row-ahead (Err e) p = p
 
-  choice-ahead : (b : Bool) (x y : Result RunResult Ending) → Ahead at len x → Ahead at len y → Ahead at len (if b then x else y)
+  choice-ahead :
+      (b : Bool) (x y : Result RunResult Ending) → Ahead at len x → Ahead at len y → Ahead at len (if b then x else y)
   choice-ahead true x y p q = p
   choice-ahead false x y p q = q
 
@@ -110,7 +112,8 @@ module _ (h : LineTableHeader) (ops : List ℕ) where
 
   -- an opcode at a place where there is a byte
   opcode-ahead :
-      (t : LineState) (f : ℕ → Result RunResult Ending) → ((op : ℕ) → t.at < length ops → Ahead t.at (length ops) (f op)) →
+      (t : LineState) (f : ℕ → Result RunResult Ending) →
+      ((op : ℕ) → t.at < length ops → Ahead t.at (length ops) (f op)) →
       (o : Option ℕ) → slice_get ops t.at ≡ o → Ahead t.at (length ops) (given UsedUp o >>= f)
   opcode-ahead t f p (Some op) e = p op (slice_get_within ops t.at op e)
   opcode-ahead t f p None e = slice_get_none ops t.at e

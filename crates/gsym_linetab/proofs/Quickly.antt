@@ -1,6 +1,8 @@
 -- The quick form of the run: what its steps say of the run follows from the opcodes of `step_of`.
 -- Assumes nothing.
-use Rattle.std.proofs.Common.{◌≡◌, ℕ, ◌+◌, ◌-◌, ◌*◌, ◌/◌, ◌%◌, ◌^◌, ◌<◌, ◌≤◌, List, [], length, get_or, ℤ, pos, ◌+ℤ◌, sym, refl, ap, ◌∙◌, arith, le-ltb, lt-ltb, ne_eqb, w64, of_z, FitsSigned, Ok, Err, Result, Some, None, Option, if◌then◌else◌}
+use Rattle.std.proofs.Common.{◌≡◌, ℕ, ◌+◌, ◌-◌, ◌*◌, ◌/◌, ◌%◌, ◌^◌, ◌<◌, ◌≤◌, List, [], length, get_or, ℤ, pos, ◌+ℤ◌}
+use Rattle.std.proofs.Common.{sym, refl, ap, ◌∙◌, arith, le-ltb, lt-ltb, ne_eqb, w64, of_z, FitsSigned, Ok, Err, Result}
+use Rattle.std.proofs.Common.{Some, None, Option, if◌then◌else◌}
 use Rattle.std.proofs.Math.Nat.{mod-le}
 use Rattle.std.specs.Int.{int_wrap}
 use Rattle.std.specs.Ordering.{int_eq}
@@ -31,7 +33,8 @@ module _ (ops : List ℕ) where
 
   -- an opcode that makes no row, whatever the header is
   no_row_made :
-      (t q : LineState) (r : Result LineState Ending) → ((h : LineTableHeader) → no_row r ≡ step_of h ops t) → r ≡ Ok q →
+      (t q : LineState) (r : Result LineState Ending) → ((h : LineTableHeader) → no_row r ≡ step_of h ops t) →
+      r ≡ Ok q →
       (t.at < q.at) × MakesNoRow ops t q
   no_row_made t q r e i =
       let ran : (h : LineTableHeader) → step_of h ops t ≡ Ok (run.Ok q) = λ h. sym (e h) ∙ ap no_row i in
@@ -39,7 +42,8 @@ module _ (ops : List ℕ) where
       (on.0, record { onward = omega arith; same = λ h. on_ok h ops t q (ran h) })
 
   ends_there :
-      (t : LineState) (r : Result LineState Ending) (x : Ending) → ((h : LineTableHeader) → no_row r ≡ step_of h ops t) →
+      (t : LineState) (r : Result LineState Ending) (x : Ending) →
+      ((h : LineTableHeader) → no_row r ≡ step_of h ops t) →
       r ≡ Err x → (h : LineTableHeader) → (run_of h ops t).rows ≡ []
   ends_there t r x e i h = ap (λ (y : Run). y.rows) (on_end h ops t x (sym (e h) ∙ ap no_row i))
 
@@ -136,8 +140,10 @@ module _ (h : LineTableHeader) (ops : List ℕ) (t : LineState) where
       )
       refl)
 
-  pub row_behind : (q : LineState) (r : Option LineState) → MakesNoRow ops t q → MakesNextRow h ops q r → MakesNextRow h ops t r
-  row_behind q (Some v) k x = record { onward = omega (arith, k.onward, x.onward); within = x.within; made = k.same h ∙ x.made }
+  pub row_behind :
+      (q : LineState) (r : Option LineState) → MakesNoRow ops t q → MakesNextRow h ops q r → MakesNextRow h ops t r
+  row_behind q (Some v) k x =
+      record { onward = omega (arith, k.onward, x.onward); within = x.within; made = k.same h ∙ x.made }
   row_behind q None k x = tt
 
 -- ---- special opcodes
@@ -178,24 +184,26 @@ module _ (p : Plan) (f : FitsSigned w64 p.header.min_delta) where
         p.planned.least,
         moved-line line (a % p.range) p.header.min_delta small f,
         p.planned.whole,
-        not_zero (pos p.range) (int_eq (pos p.range) (pos 0)) (Decides-int_eq (pos p.range) (pos 0)) (λ e. omega (arith, p.planned.some)),
+        not_zero (pos p.range) (int_eq (pos p.range) (pos 0)) (Decides-int_eq (pos p.range) (pos 0))
+            (λ e. omega (arith, p.planned.some)),
       )
       refl
 
   pub special-made :
-      (ops : List ℕ) (at addr file line to on : ℕ) → at < length ops → 4 ≤ get_or ops at 0 → get_or ops at 0 < 256 →
-      let a = get_or ops at 0 - 4 in
+      (ops : List ℕ) (at addr file line to on a from : ℕ) →
+      at < length ops → 4 ≤ get_or ops at 0 → get_or ops at 0 < 256 → a ≡ get_or ops at 0 - 4 → from ≡ line →
       let steps = a * p.factor / 65536 in
-      to ≡ (addr + steps) % 2 ^ 64 → on ≡ (line + p.low + (a - steps * p.range)) % 2 ^ 32 →
+      to ≡ (addr + steps) % 2 ^ 64 → on ≡ (from + p.low + (a - steps * p.range)) % 2 ^ 32 →
       MakesOneRow p.header ops (state addr file line at) (state to file on (at + 1))
-  special-made ops at addr file line to on l above byte eT eL =
+  special-made ops at addr file line to on a from l above byte eA eF eT eL =
       let t = state addr file line at in
-      let a = get_or ops at 0 - 4 in
       let q = state to file on (at + 1) in
-      let r : ◌≡◌ {A = Result LineState Ending} (Ok q) (special_of p.header t.row a (at + 1)) =
-      special-is addr file line a (at + 1) to on (omega arith)
-      (eT ∙ ap (λ x. (addr + x) % 2 ^ 64) (steps-are p a (omega arith)))
-      (eL ∙ ap (λ x. (line + p.low + x) % 2 ^ 32) (over-is p a (omega arith)).1) in
+      let r : ◌≡◌ {A = Result LineState Ending} (Ok q) (special_of p.header t.row (get_or ops at 0 - 4) (at + 1)) =
+      special-is addr file line a (at + 1) to on (omega (arith, eA))
+      (eT ∙ ap (λ x. (addr + x) % 2 ^ 64) (steps-are p a (omega (arith, eA))))
+      (eL ∙ ap (λ x. (x + p.low + (a - a * p.factor / 65536 * p.range)) % 2 ^ 32) eF
+      ∙ ap (λ x. (line + p.low + x) % 2 ^ 32) (over-is p a (omega (arith, eA))).1)
+      ∙ ap (λ x. special_of p.header t.row x (at + 1)) eA in
       special_makes p.header ops t l above q (sym r)
 
 -- ---- the run, where the state is the last row made
@@ -241,6 +249,7 @@ module _ (h : LineTableHeader) (ops : List ℕ) (addr : Address) (start : LineSt
       }
 
 -- for the attributes of `first_maker` and `quick_rows`
-pub ruleset settings = (no_row_here, no_row_then, none_then, end_ends, used_up_ends, file_onward, file_moves, line_onward, line_moves)
+pub ruleset settings =
+    (no_row_here, no_row_then, none_then, end_ends, used_up_ends, file_onward, file_moves, line_onward, line_moves)
 
 pub ruleset quickly = (at_start, row_above, row_below)

@@ -1,6 +1,7 @@
 -- A run, one opcode at a time. Each opcode takes a byte, so the equations need no count of them.
 -- Assumes nothing.
-use Rattle.std.proofs.Common.{◌≡◌, ℕ, zero, suc, ◌-◌, ◌<◌, ◌≤◌, List, [], length, refl, ap, ◌∙◌, arith, le-ltb, lt-ltb, Ok, Err, Result, Some, Option, if◌then◌else◌}
+use Rattle.std.proofs.Common.{◌≡◌, ℕ, zero, suc, ◌-◌, ◌<◌, ◌≤◌, List, [], length, refl, ap, ◌∙◌, arith, le-ltb, lt-ltb}
+use Rattle.std.proofs.Common.{Ok, Err, Result, Some, Option, if◌then◌else◌}
 use Rattle.std.specs.Option.{option_and}
 use Rattle.gsym_types.specs.declared.Address.{Address}
 use Rattle.gsym_linetab.specs.declared.LineTableHeader.{LineTableHeader}
@@ -53,10 +54,12 @@ module _ (h : LineTableHeader) (ops : List ℕ) where
     pub on_ok : (q : LineState) → step_of h ops t ≡ Ok (run.Ok q) → run_of h ops t ≡ run_of h ops q
     on_ok q e = by (Ok (run.Ok q)) e
 
-    pub on_row : (q : LineState) → step_of h ops t ≡ Ok (run.NewRow q) → run_of h ops t ≡ with_row q.row (run_of h ops q)
+    pub on_row :
+        (q : LineState) → step_of h ops t ≡ Ok (run.NewRow q) → run_of h ops t ≡ with_row q.row (run_of h ops q)
     on_row q e = by (Ok (run.NewRow q)) e
 
-    pub on_end : (e : Ending) → step_of h ops t ≡ Err e → run_of h ops t ≡ record { rows = []; final = t.row; ended = e }
+    pub on_end :
+        (e : Ending) → step_of h ops t ≡ Err e → run_of h ops t ≡ record { rows = []; final = t.row; ended = e }
     on_end e q = by (Err e) q
 
   -- ---- the row of an address, where `b` is the last row made
@@ -65,7 +68,8 @@ module _ (h : LineTableHeader) (ops : List ℕ) where
     same_row : (ran : Run) → run_of h ops t ≡ ran → row_from h ops addr b t ≡ row_among addr ran.final b ran.rows
     same_row ran e = ap (λ (x : Run). row_among addr x.final b x.rows) e
 
-    pub row_after_ok : (q : LineState) → step_of h ops t ≡ Ok (run.Ok q) → row_from h ops addr b t ≡ row_from h ops addr b q
+    pub row_after_ok :
+        (q : LineState) → step_of h ops t ≡ Ok (run.Ok q) → row_from h ops addr b t ≡ row_from h ops addr b q
     row_after_ok q e = same_row _ (on_ok t q e)
 
     pub row_after_row :

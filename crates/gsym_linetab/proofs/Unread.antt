@@ -1,6 +1,7 @@
 -- A header is refused, and an opcode stops, exactly when the definitions of specs/Unread.antt say so.
 -- Assumes nothing.
-use Rattle.std.proofs.Common.{◌≡◌, ℕ, ◌+◌, ◌≤◌, ◌↔◌, Bool, true, false, eqb, List, length, sym, refl, ap, ◌∙◌, subst, arith, ne_eqb, eqb-true, Ok, Err, Result, Some}
+use Rattle.std.proofs.Common.{◌≡◌, ℕ, ◌+◌, ◌≤◌, ◌↔◌, Bool, true, false, eqb, List, length, sym, refl, ap, ◌∙◌, subst}
+use Rattle.std.proofs.Common.{arith, ne_eqb, eqb-true, Ok, Err, Result, Some}
 use Rattle.std.specs.Prelude.{pos, not}
 use Rattle.std.specs.List.{slice_get}
 use Rattle.std.specs.Ordering.{int_eq}
@@ -17,8 +18,10 @@ use Rattle.gsym_linetab.specs.declared.LineState.{LineState}
 use Rattle.gsym_linetab.specs.declared.Ending.{Ending}
 use Rattle.gsym_linetab.specs.declared.Ending.TheVariants.{Stopped, UsedUp}
 use Rattle.gsym_linetab.specs.declared.RunResult.{RunResult}
-use Rattle.gsym_linetab.specs.Machine.{header_of, operand, range_of, no_row, a_row, set_file, advance_pc, advance_line, special_of, step_of}
-use Rattle.gsym_linetab.specs.Unread.{IsUnread, min, max, first_line, IsStop, at_file, at_address, at_line, at_special}
+use Rattle.gsym_linetab.specs.Machine.{header_of, operand, range_of, no_row, a_row, set_file, advance_pc, advance_line}
+use Rattle.gsym_linetab.specs.Machine.{special_of, step_of}
+use Rattle.gsym_linetab.specs.Unread.{IsUnread, no_min, no_max, no_line, IsStop, at_file, at_address, at_line}
+use Rattle.gsym_linetab.specs.Unread.{at_special}
 use Rattle.gsym_linetab.proofs.Progress.{Ahead, step_ahead}
 
 -- one error, of two types of values
@@ -30,18 +33,19 @@ module _ (s : List ℕ) (at : ℕ) (cause : Cause) where
   unfolding header_of
   unread_to =
       let P : Result (LineTableHeader × ℕ) Cause → Type 0 = λ r. r ≡ Err cause → IsUnread s at cause in
-      through P (signed_at s at) _ (λ e m i. min (err_as _ e cause m i))
-      (λ x m. through P (signed_at s x.1) _ (λ e q i. max x m (err_as _ e cause q i))
-      (λ y q. through P (unsigned_at s y.1) _ (λ e z i. first_line x y m q (err_as _ e cause z i))
+      through P (signed_at s at) _ (λ e m i. no_min (err_as _ e cause m i))
+      (λ x m. through P (signed_at s x.1) _ (λ e q i. no_max x m (err_as _ e cause q i))
+      (λ y q. through P (unsigned_at s y.1) _ (λ e z i. no_line x y m q (err_as _ e cause z i))
       (λ v z i. absurd cc)))
 
   unread_from : IsUnread s at cause → header_of s at ≡ Err cause
   unfolding header_of
-  unread_from (min e) = rw e refl
-  unread_from (max x m e) = rw (m, e) refl
-  unread_from (first_line x y m q e) = rw (m, q, e) refl
+  unread_from (no_min e) = rw e refl
+  unread_from (no_max x m e) = rw (m, e) refl
+  unread_from (no_line x y m q e) = rw (m, q, e) refl
 
-  pub header_unread : (r : Result (LineTableHeader × ℕ) Cause) → r ≡ header_of s at → IsErrOf r cause ↔ IsUnread s at cause
+  pub header_unread :
+      (r : Result (LineTableHeader × ℕ) Cause) → r ≡ header_of s at → IsErrOf r cause ↔ IsUnread s at cause
   header_unread r e = (λ i. unread_to (sym e ∙ i), λ u. e ∙ unread_from u)
 
 pub header_refused :
@@ -53,13 +57,15 @@ header_refused s at r e cause = header_unread s at cause r e
 
 -- an operand that stops the program doesn't read
 unread_no_row :
-    {A : Type 0} (x : Result (A × ℕ) Cause) (f : A × ℕ → LineState) → no_row (operand x >>= λ p. Ok (f p)) ≡ Err Stopped →
+    {A : Type 0} (x : Result (A × ℕ) Cause) (f : A × ℕ → LineState) →
+    no_row (operand x >>= λ p. Ok (f p)) ≡ Err Stopped →
     (cause : Cause) × (x ≡ Err cause)
 unread_no_row (Ok p) f e = absurd cc
 unread_no_row (Err cause) f e = (cause, refl)
 
 unread_a_row :
-    {A : Type 0} (x : Result (A × ℕ) Cause) (f : A × ℕ → LineState) → a_row (operand x >>= λ p. Ok (f p)) ≡ Err Stopped →
+    {A : Type 0} (x : Result (A × ℕ) Cause) (f : A × ℕ → LineState) →
+    a_row (operand x >>= λ p. Ok (f p)) ≡ Err Stopped →
     (cause : Cause) × (x ≡ Err cause)
 unread_a_row (Ok p) f e = absurd cc
 unread_a_row (Err cause) f e = (cause, refl)
@@ -78,11 +84,14 @@ module _ (h : LineTableHeader) (ops : List ℕ) (t : LineState) where
       (λ op s.
       by_choice P (eqb op 0) _ _ (λ b i. absurd cc) (λ b0.
       by_choice P (eqb op 1) _ _
-      (λ b i. let u = unread_no_row (unsigned_at ops (t.at + 1)) _ i in at_file u.0 (s ∙ ap Some (eqb-true op 1 b)) u.1) (λ b1.
+      (λ b i. let u = unread_no_row (unsigned_at ops (t.at + 1)) _ i in at_file u.0 (s ∙ ap Some (eqb-true op 1 b)) u.1)
+      (λ b1.
       by_choice P (eqb op 2) _ _
-      (λ b i. let u = unread_a_row (unsigned_at ops (t.at + 1)) _ i in at_address u.0 (s ∙ ap Some (eqb-true op 2 b)) u.1) (λ b2.
+      (λ b i. let u = unread_a_row (unsigned_at ops (t.at + 1)) _ i in
+      at_address u.0 (s ∙ ap Some (eqb-true op 2 b)) u.1) (λ b2.
       by_choice P (eqb op 3) _ _
-      (λ b i. let u = unread_no_row (signed_at ops (t.at + 1)) _ i in at_line u.0 (s ∙ ap Some (eqb-true op 3 b)) u.1) (λ b3 i.
+      (λ b i. let u = unread_no_row (signed_at ops (t.at + 1)) _ i in at_line u.0 (s ∙ ap Some (eqb-true op 3 b)) u.1)
+      (λ b3 i.
       at_special op s
       (omega (arith, eqb-false op 0 b0, eqb-false op 1 b1, eqb-false op 2 b2, eqb-false op 3 b3))
       ((Decides-int_eq (range_of h) (pos 0)).0 (no_range (int_eq (range_of h) (pos 0)) _ i)))))))

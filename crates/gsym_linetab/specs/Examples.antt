@@ -43,28 +43,43 @@ t8 = refl
 
 -- ---- what wraps
 
--- addresses modulo 2^64 and lines modulo 2^32, both ways; a range that wraps to 0; the file and the first line modulo 2^32
+-- addresses modulo 2^64 and lines modulo 2^32, both ways; a range that wraps to 0; file and first line modulo 2^32
 pub record WrapExamples : Type 0 where
   -- opcode 2 with the operand 2, from the last address
-  pub address : step_of (between (pos 0) (pos 1)) (2 ∷ 2 ∷ []) (state (2 ^ 64 - 1) 1 100 0) ≡ Ok (NewRow (state 1 1 100 2))
+  pub address :
+      step_of (between (pos 0) (pos 1)) (2 ∷ 2 ∷ []) (state (2 ^ 64 - 1) 1 100 0) ≡ Ok (NewRow (state 1 1 100 2))
   -- min 0, max -3: opcode 7 moves an address of 0 back by 1
-  pub address_back : step_of (between (pos 0) (neg_ℤ (pos 3))) (7 ∷ []) (state 0 1 100 0) ≡ Ok (NewRow (state (2 ^ 64 - 1) 1 101 1))
+  pub address_back :
+      step_of (between (pos 0) (neg_ℤ (pos 3))) (7 ∷ []) (state 0 1 100 0) ≡ Ok (NewRow (state (2 ^ 64 - 1) 1 101 1))
   -- opcode 3 with the operand 2, from the last line, and with -2, from line 1
-  pub line : step_of (between (pos 0) (pos 1)) (3 ∷ 2 ∷ []) (state 4096 1 (2 ^ 32 - 1) 0) ≡ Ok (run.Ok (state 4096 1 1 2))
-  pub line_back : step_of (between (pos 0) (pos 1)) (3 ∷ 0x7e ∷ []) (state 4096 1 1 0) ≡ Ok (run.Ok (state 4096 1 (2 ^ 32 - 1) 2))
+  pub line :
+      step_of (between (pos 0) (pos 1)) (3 ∷ 2 ∷ []) (state 4096 1 (2 ^ 32 - 1) 0) ≡ Ok (run.Ok (state 4096 1 1 2))
+  pub line_back :
+      step_of (between (pos 0) (pos 1)) (3 ∷ 0x7e ∷ []) (state 4096 1 1 0) ≡ Ok (run.Ok (state 4096 1 (2 ^ 32 - 1) 2))
   -- min -2^63, max 2^63-1: the range is 2^64, which wraps to 0
   pub range : step_of (between (neg_ℤ (pos (2 ^ 63))) (pos (2 ^ 63 - 1))) (4 ∷ []) (state 4096 1 100 0) ≡ Err Stopped
   -- opcode 1 with the operand 2^32 + 3
-  pub file : step_of (between (pos 0) (pos 1)) (1 ∷ 0x83 ∷ 0x80 ∷ 0x80 ∷ 0x80 ∷ 0x10 ∷ []) (state 4096 1 100 0) ≡ Ok (run.Ok (state 4096 3 100 6))
+  pub file :
+      step_of (between (pos 0) (pos 1)) (1 ∷ 0x83 ∷ 0x80 ∷ 0x80 ∷ 0x80 ∷ 0x10 ∷ []) (state 4096 1 100 0)
+      ≡ Ok (run.Ok (state 4096 3 100 6))
   -- a header of min 0, max 1 and the first line 2^32 + 3
   pub first_line :
       header_of (0 ∷ 1 ∷ 0x83 ∷ 0x80 ∷ 0x80 ∷ 0x80 ∷ 0x10 ∷ []) 0
       ≡ Ok (record { min_delta = pos 0; max_delta = pos 1; first_line = record { 0 = 3 } }, 7)
 
 pub wrap_examples : WrapExamples
-unfolding step_of set_file advance_pc advance_line special_of range_of int_wrap header_of unsigned_at signed_at unsigned signed digits
+unfolding step_of set_file advance_pc advance_line special_of range_of int_wrap header_of unsigned_at signed_at
+    unsigned signed digits
 wrap_examples =
-    record { address = refl; address_back = refl; line = refl; line_back = refl; range = refl; file = refl; first_line = refl }
+    record {
+      address = refl;
+      address_back = refl;
+      line = refl;
+      line_back = refl;
+      range = refl;
+      file = refl;
+      first_line = refl;
+    }
 
 -- ---- a whole table of a symbol at 0x1000
 
@@ -79,8 +94,8 @@ row addr file line = (state addr file line 0).row
 abbrev pub at : ℕ → Address
 at addr = record { 0 = addr }
 
--- the first row is of file 1, and its line is the first line less 4 and 11 more; below the first row there is none, then
--- the row before the first row above is the answer, and where none is above, the state at the end
+-- the first row is of file 1, and its line is the first line less 4 and 11 more; below the first row there is none,
+-- then the row before the first row above is the answer, and where none is above, the state at the end
 pub record TableExample : Type 0 where
   pub rows :
       table_of table (at 0x1000)
@@ -95,5 +110,6 @@ pub record TableExample : Type 0 where
   pub above_all : line_row table (at 0x1000) (at 0x1015) ≡ Ok (Some (row 0x1015 2 112))
 
 pub table_example : TableExample
-unfolding line_row row_among table_of run_of within step_of set_file advance_pc advance_line special_of range_of int_wrap header_of unsigned_at signed_at unsigned signed digits
+unfolding line_row row_among table_of run_of within step_of set_file advance_pc advance_line special_of range_of
+    int_wrap header_of unsigned_at signed_at unsigned signed digits
 table_example = record { rows = refl; below_all = refl; first = refl; between_two = refl; above_all = refl }

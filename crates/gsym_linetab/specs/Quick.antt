@@ -1,6 +1,7 @@
--- What the quick form of the run goes by: whose header a plan is for, and what its steps say of the run from a state on.
+-- What the quick form of the run goes by: whose header a plan is for, and what steps say of the run from a state on.
 -- Assumes nothing.
-use Rattle.std.specs.Prelude.{◌≡◌, ℕ, ◌+◌, ◌/◌, ◌%◌, ◌^◌, ◌<◌, ◌≤◌, List, [], length, slice_index, pos, nat_lt, Some, None, Option, if◌then◌else◌}
+use Rattle.std.specs.Prelude.{◌≡◌, ℕ, ◌+◌, ◌/◌, ◌%◌, ◌^◌, ◌<◌, ◌≤◌, List, [], length, slice_index, pos, nat_lt, Some}
+use Rattle.std.specs.Prelude.{None, Option, if◌then◌else◌}
 use Rattle.std.specs.Int.{w64, cast_unsigned}
 use Rattle.gsym_linetab.specs.declared.LineTableHeader.{LineTableHeader}
 use Rattle.gsym_linetab.specs.declared.LineTableRow.{LineTableRow}

@@ -1,6 +1,7 @@
 -- A line program run to its end: its rows, and the row of an address among them (RULES, "Line table").
 -- Assumes nothing.
-use Rattle.std.specs.Prelude.{ℕ, zero, suc, ◌-◌, List, [], ◌∷◌, length, nat_lt, Some, None, Option, Ok, Err, Result, if◌then◌else◌}
+use Rattle.std.specs.Prelude.{ℕ, zero, suc, ◌-◌, List, [], ◌∷◌, length, nat_lt, Some, None, Option, Ok, Err, Result}
+use Rattle.std.specs.Prelude.{if◌then◌else◌}
 use Rattle.std.specs.Option.{option_and}
 use Rattle.gsym_reads.specs.Steps.{◌>>=◌}
 use Rattle.gsym_types.specs.declared.Address.{Address}

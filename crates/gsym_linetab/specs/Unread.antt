@@ -10,15 +10,16 @@ use Rattle.gsym_linetab.specs.Machine.{range_of, op_file, op_address, op_line, f
 
 -- the header at a place doesn't read, for the cause of the first number that doesn't
 pub data IsUnread (s : List ℕ) (at : ℕ) (cause : Cause) : Type 0 where
-  min : signed_at s at ≡ Err cause → IsUnread s at cause
-  max : (min : ℤ × ℕ) → signed_at s at ≡ Ok min → signed_at s min.1 ≡ Err cause → IsUnread s at cause
-  first_line :
+  no_min : signed_at s at ≡ Err cause → IsUnread s at cause
+  no_max : (min : ℤ × ℕ) → signed_at s at ≡ Ok min → signed_at s min.1 ≡ Err cause → IsUnread s at cause
+  no_line :
       (min max : ℤ × ℕ) → signed_at s at ≡ Ok min → signed_at s min.1 ≡ Ok max → unsigned_at s max.1 ≡ Err cause →
       IsUnread s at cause
 
 -- the opcode at a state's place stops the program: its operand doesn't read, or it is a special one and the range is 0
 pub data IsStop (h : LineTableHeader) (ops : List ℕ) (t : LineState) : Type 0 where
-  at_file : (cause : Cause) → slice_get ops t.at ≡ Some op_file → unsigned_at ops (t.at + 1) ≡ Err cause → IsStop h ops t
+  at_file :
+      (cause : Cause) → slice_get ops t.at ≡ Some op_file → unsigned_at ops (t.at + 1) ≡ Err cause → IsStop h ops t
   at_address :
       (cause : Cause) → slice_get ops t.at ≡ Some op_address → unsigned_at ops (t.at + 1) ≡ Err cause → IsStop h ops t
   at_line : (cause : Cause) → slice_get ops t.at ≡ Some op_line → signed_at ops (t.at + 1) ≡ Err cause → IsStop h ops t

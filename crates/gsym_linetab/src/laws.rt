@@ -12,17 +12,17 @@ ghost use Rattle.gsym_linetab.specs.Examples.{TableExample, WrapExamples};
 use super::{LineState, LineTableHeader};
 use gsym_types::Address;
 
-/// A whole table, byte for byte: its rows, the state at its end, and the rows of four addresses; and what wraps: addresses
-/// and lines, both ways, the range, the file and the first line (RULES, "Line table").
+/// A whole table, byte for byte: its rows, the state at its end, and the rows of four addresses; and what wraps:
+/// addresses and lines, both ways, the range, the file and the first line (RULES, "Line table").
 #[tactic(auto, using(crate::specs::Examples::table_example, crate::specs::Examples::wrap_examples))]
 pub fn whole_table()
     ensures table { TableExample }
     ensures wraps { WrapExamples }
 {}
 
-/// A program may be left and gone on with: from a state that its run for an address reaches, the row is the one from its
-/// start. It is none where no row was made before the end, the state there where one was, and the last row made where
-/// the next is above the address (RULES, "Line table").
+/// A program may be left and gone on with: from a state that its run for an address reaches, the row is the one from
+/// its start. It is none where no row was made before the end, the state there where one was, and the last row made
+/// where the next is above the address (RULES, "Line table").
 #[tactic(auto, using(crate::proofs::Reach::resumed, crate::proofs::Reach::none_made, crate::proofs::Reach::present_state, crate::proofs::Reach::row_before))]
 pub fn left_and_gone_on_with(header: LineTableHeader, ops: &[u8], start: LineState, addr: Address)
     ensures resumed { (last : Option LineTableRow) (state : LineState)

@@ -36,8 +36,8 @@ const ADVANCE_LINE: u8 = 3;
 /// This opcode and all above it change line and address and make a row.
 const FIRST_SPECIAL: u8 = 4;
 
-/// What stands before the program: which line changes special opcodes make, and the line at the symbol's address (RULES,
-/// "Line table").
+/// What stands before the program: which line changes special opcodes make, and the line at the symbol's address
+/// (RULES, "Line table").
 #[derive(Clone, Copy, Debug, PartialEq, Eq, Default, Hash)]
 pub struct LineTableHeader {
     /// The least line change of a special opcode.
@@ -118,7 +118,7 @@ pub fn parse(block: &[u8], at: usize) -> Result<(LineTableHeader, usize), Cause>
     Ok((header, next))
 }
 
-/// The state's row before the first opcode: the symbol's address, file 1, the header's first line (RULES, "Line table").
+/// The state's row before the first opcode: the symbol's address, file 1, the first line (RULES, "Line table").
 pub fn from_header(header: LineTableHeader, symbol: Address) -> LineTableRow
     ensures { result ≡ start_row header symbol }
 {

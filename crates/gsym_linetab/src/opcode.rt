@@ -1,6 +1,7 @@
 //! What each opcode does to a row (RULES, "Line table"). An operand that doesn't read stops the program.
 ghost use Rattle.std.specs.Prelude.{◌≡◌, ◌≢◌, pos, int_div, int_rem};
-ghost use Rattle.gsym_linetab.specs.Machine.{set_file, advance_pc, advance_line, line_after, addr_after, range_of, special_of};
+ghost use Rattle.gsym_linetab.specs.Machine.{set_file, advance_pc, advance_line, line_after, addr_after, range_of};
+ghost use Rattle.gsym_linetab.specs.Machine.{special_of};
 
 use super::{Ending, LineState, LineTableHeader, LineTableRow};
 use gsym_types::{Address, FileIndex, LineNumber};
@@ -68,23 +69,24 @@ pub(crate) fn range_of(header: LineTableHeader) -> i64
     span.wrapping_add(1)
 }
 
-// How far the opcode `a` above the first special one moves the address: rounded toward zero.
+// How far the opcode `a` above the first special one moves the address: rounded toward zero. Its caller has just asked
+// whether the range is 0, and nothing divides by 0.
 #[tactic(auto, using(crate::proofs::Numbers::quotient_is))]
 fn quotient(a: u8, range: i64) -> i64
     requires { range ≢ pos 0 }
     ensures { result ≡ int_div (pos a) range }
 {
-    let a = a as i64;
+    let a = i64::from(a);
     a / range
 }
 
-// How far it moves the line beyond min: what that quotient leaves.
+// How far it moves the line beyond min: what that quotient leaves. Asked as there, of a range that is not 0.
 #[tactic(auto, using(crate::proofs::Numbers::remainder_is))]
 fn remainder(a: u8, range: i64) -> i64
     requires { range ≢ pos 0 }
     ensures { result ≡ int_rem (pos a) range }
 {
-    let a = a as i64;
+    let a = i64::from(a);
     a % range
 }
 

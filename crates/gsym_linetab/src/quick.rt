@@ -1,7 +1,7 @@
-//! The row of an address at a range from 1 to 255, row by row. Between two rows the state is the last row made, since no
-//! opcode moves the address without a row: so the row before is at hand, and nothing is copied for it. A special opcode
-//! multiplies by a factor where `run_op` divides. What else stands in a program, and its end, is left to `row_by_op`,
-//! which goes on from the last row.
+//! The row of an address at a range from 1 to 255, row by row. Between two rows the state is the last row made, since
+//! no opcode moves the address without a row: so the row before is at hand, and nothing is copied for it. A special
+//! opcode multiplies by a factor where `run_op` divides. What else stands in a program, and its end, is left to
+//! `row_by_op`, which goes on from the last row.
 ghost use Rattle.std.specs.Prelude.{◌≡◌, ◌<◌, ◌≤◌, length, slice_index, Some, IfSome};
 ghost use Rattle.gsym_linetab.specs.declared.LineTableHeader.{LineTableHeader};
 ghost use Rattle.gsym_linetab.specs.Quick.{IsPlanFor, LeadsToMaker, MakesNoRow, MakesNextRow, row_before};
@@ -32,8 +32,8 @@ pub(crate) fn first_maker(ops: &[u8], start: LineState) -> Option<LineState>
     ensures { LeadsToMaker ops.now start result }
 {
     let mut state = start;
-    // A turn takes an opcode with its operand: it is no element of a slice. By `match`: with `ok()` and `?` the answers of
-    // the loop, which name the arms, leave goals open.
+    // A turn takes an opcode with its operand: it is no element of a slice. By `match`: with `ok()` and `?` the answers
+    // of the loop, which name the arms, leave goals open.
     'settings: while state.at < ops.len() {
         let next = state.at + 1;
         match ops[state.at] {
@@ -53,7 +53,7 @@ pub(crate) fn first_maker(ops: &[u8], start: LineState) -> Option<LineState>
 }
 
 // The row of the special opcode at the state's place. The quotient is a product and a shift, exact for a byte and the
-// plan's factor.
+// plan's factor. Its callers have just tested what the two `requires` say, so no row is tested twice.
 fn special_row(ops: &[u8], state: LineState, plan: Plan) -> LineState
     requires there { state.at < length ops.now }
     requires special { 4 ≤ slice_index ops.now state.at }
@@ -61,11 +61,11 @@ fn special_row(ops: &[u8], state: LineState, plan: Plan) -> LineState
 {
     let at = state.at;
     let row = state.row;
-    let a = (ops[at] - FIRST_SPECIAL) as u64;
+    let a = u64::from(ops[at] - FIRST_SPECIAL);
     let steps = a * plan.factor / 65536;
     let over = a - steps * plan.range;
     let to = row.addr.0.wrapping_add(steps);
-    let sum = (row.file_line.0 as u64) + plan.low + over;
+    let sum = u64::from(row.file_line.0) + plan.low + over;
     let on = (sum % 0x1_0000_0000) as u32;
     let row = LineTableRow {
         addr: Address(to),
@@ -93,7 +93,7 @@ fn file_to(ops: &[u8], state: LineState) -> Option<LineState>
 }
 
 // The state after opcode 3, if that stands at its place, where its callers have seen a byte. None: the operand doesn't
-// read.
+// read. Beside `file_to`: one over both would take what the opcode does as a closure, and `file_to` can't have `ok()`.
 #[tactic(auto, using(crate::proofs::Quickly::line_moves))]
 fn line_to(ops: &[u8], state: LineState) -> Option<LineState>
     requires { state.at < length ops.now }
@@ -133,7 +133,8 @@ fn near_row(ops: &[u8], state: LineState, plan: Plan) -> Option<LineState>
     pc_row(ops, moved)
 }
 
-// The next row. Most are of a special opcode alone, so that is asked for first.
+// The next row. Most are of a special opcode alone, so that is asked for first. `near_row` has that test too, and is
+// what may follow the file: one over both would go opcode by opcode, which takes longer than by rows (DECISIONS, D15).
 fn next_row(ops: &[u8], state: LineState, plan: Plan) -> Option<LineState>
     ensures { MakesNextRow plan.header ops.now state result }
 {

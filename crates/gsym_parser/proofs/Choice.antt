@@ -1,7 +1,8 @@
 -- What the search answers: on every table an entry that fits, and unknown exactly where there is none to choose; on a
 -- table that never falls the last entry that isn't above, and no other index fits.
 -- Assumes nothing.
-use Rattle.std.proofs.Common.{Option, Some, None, ◌≡◌, ℕ, zero, suc, ◌+◌, ◌-◌, ◌/◌, ◌<◌, ◌≤◌, ◌⊎◌, List, length, get_or, refl, ap, subst, inl, inr, ⊎_elim, arith, le-leb}
+use Rattle.std.proofs.Common.{Option, Some, None, ◌≡◌, ℕ, zero, suc, ◌+◌, ◌-◌, ◌/◌, ◌<◌, ◌≤◌, ◌⊎◌, List, length, get_or}
+use Rattle.std.proofs.Common.{refl, ap, subst, inl, inr, ⊎_elim, arith, le-leb}
 use Rattle.std.specs.List.Sorted.{IsNonDecreasing, IsStrictlyIncreasing}
 use Rattle.std.proofs.lemmas.List.Sorted.{IsNonDecreasingBy-from_default}
 use Rattle.std.proofs.lemmas.Bool.{cases_lt, lt-leb}
@@ -123,8 +124,8 @@ module _ (table : List ℕ) (up : IsStrictlyIncreasing table) where
       subst (λ x. get_or table (i + d) 0 < get_or table x 0) e (up (i + d) (omega arith)) in
       omega (arith, up_to i d (omega arith))
 
-  pub rises-never-falls : IsNonDecreasing table
-  rises-never-falls =
+  pub increasing-never-falls : IsNonDecreasing table
+  increasing-never-falls =
       IsNonDecreasingBy-from_default (λ x. x) table 0 (λ i j h l.
       let e : i + (j - i) ≡ j = omega arith in
       subst (λ x. get_or table i 0 ≤ get_or table x 0) e (up_to i (j - i) (omega arith)))

@@ -1,10 +1,12 @@
 -- What `find_addr` ensures, of the index that the search gives and the entry beside it.
 -- Assumes nothing.
-use Rattle.std.proofs.Common.{Option, Some, None, ◌≡◌, ◌∙◌, ℕ, ◌+◌, ◌-◌, ◌^◌, ◌<◌, ◌≤◌, get_or, subst, sym, refl, ap, arith}
+use Rattle.std.proofs.Common.{Option, Some, None, ◌≡◌, ◌∙◌, ℕ, ◌+◌, ◌-◌, ◌^◌, ◌<◌, ◌≤◌, get_or, subst, sym, refl, ap}
+use Rattle.std.proofs.Common.{arith}
 use Rattle.std.specs.List.Sorted.{IsNonDecreasing}
 use Rattle.gsym_types.specs.declared.Address.{Address}
 use Rattle.gsym_parser.specs.View.{View}
-use Rattle.gsym_parser.specs.Search.{entries_of, find_of, with_entry, land_of, addresses_of, Right, Chosen, LastNotAbove, Nowhere}
+use Rattle.gsym_parser.specs.Search.{entries_of, find_of, with_entry, land_of, addresses_of, Right, Chosen}
+use Rattle.gsym_parser.specs.Search.{LastNotAbove, Nowhere}
 use Rattle.gsym_parser.specs.Entries.{symbol_at}
 use Rattle.gsym_parser.proofs.Choice.{chosen, chosen_last, chosen-unique}
 use Rattle.gsym_parser.proofs.Lands.{find-address}
@@ -27,7 +29,9 @@ module _ (v : View) (addr : Address) where
   none-is None e = refl
   none-is (Some i) e = absurd cc
 
-  some-is : (o : Option ℕ) (i n : ℕ) → Some (i, n) ≡ with_entry (entries_of v) o → (o ≡ Some i) × (n ≡ get_or (entries_of v) i 0)
+  some-is :
+      (o : Option ℕ) (i n : ℕ) → Some (i, n) ≡ with_entry (entries_of v) o →
+      (o ≡ Some i) × (n ≡ get_or (entries_of v) i 0)
   some-is None i n e = absurd cc
   some-is (Some j) i n e =
       let b : ◌≡◌ {A = ℕ × ℕ} (i, n) (j, get_or (entries_of v) j 0) = cc in

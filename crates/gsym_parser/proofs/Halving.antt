@@ -1,6 +1,7 @@
 -- The halving search one turn at a time, with nothing said of how many turns there are; and each way out of the code.
 -- Assumes nothing.
-use Rattle.std.proofs.Common.{Some, None, ◌≡◌, ℕ, zero, suc, ◌+◌, ◌-◌, ◌/◌, ◌<◌, ◌≤◌, leb, List, length, get_or, refl, ap, ⊎_elim, arith, le-ltb, lt-ltb, eq-eqb, ne_eqb, le-leb, if◌then◌else◌, cond}
+use Rattle.std.proofs.Common.{Some, None, ◌≡◌, ℕ, zero, suc, ◌+◌, ◌-◌, ◌/◌, ◌<◌, ◌≤◌, leb, List, length, get_or, refl}
+use Rattle.std.proofs.Common.{ap, ⊎_elim, arith, le-ltb, lt-ltb, eq-eqb, ne_eqb, le-leb, if◌then◌else◌, cond}
 use Rattle.std.proofs.lemmas.Bool.{cases_lt, lt-leb}
 use Rattle.gsym_parser.specs.Search.{halving, chosen_from, find_in}
 

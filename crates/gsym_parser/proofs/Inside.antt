@@ -1,6 +1,7 @@
 -- A number that was read at the front of bytes is as long as it is, and one reads where the bytes are there.
 -- Assumes nothing.
-use Rattle.std.proofs.Common.{Some, None, ◌≡◌, ℕ, ◌+◌, ◌<◌, ◌≤◌, List, length, take, drop, length-drop, ap, ⊎_elim, arith, le-ltb, lt-ltb}
+use Rattle.std.proofs.Common.{Some, None, ◌≡◌, ℕ, ◌+◌, ◌<◌, ◌≤◌, List, length, take, drop, length-drop, ap, ⊎_elim}
+use Rattle.std.proofs.Common.{arith, le-ltb, lt-ltb}
 use Rattle.std.specs.Int.{w32, from_le_bytes}
 use Rattle.std.proofs.lemmas.Bool.{cases_lt}
 use Rattle.gsym_reads.specs.Fronts.{u32_front}

@@ -1,10 +1,12 @@
 -- The items of a list are its first item, if there is one, and those of the bytes after it; and so is its end.
 -- Assumes nothing.
-use Rattle.std.proofs.Common.{◌≡◌, ℕ, zero, suc, ◌<◌, leb, eqb, Bool, true, false, List, [], ◌∷◌, length, take, drop, refl, sym, ap, ◌∙◌, arith, Option, Some, None, length-drop, if◌then◌else◌}
+use Rattle.std.proofs.Common.{◌≡◌, ℕ, zero, suc, ◌<◌, leb, eqb, Bool, true, false, List, [], ◌∷◌, length, take, drop}
+use Rattle.std.proofs.Common.{refl, sym, ap, ◌∙◌, arith, Option, Some, None, length-drop, if◌then◌else◌}
 use Rattle.gsym_reads.specs.Maybe.{◌>>=◌}
 use Rattle.gsym_reads.specs.Fronts.{u32_front}
 use Rattle.gsym_reads.proofs.Maybe.{bind_some, need_some}
-use Rattle.gsym_parser.specs.Items.{ItemData, sized_item, item_front, onward, items_within, items_of, is_zero, ends_at, end_onward, closed_within, closed_of}
+use Rattle.gsym_parser.specs.Items.{ItemData, sized_item, item_front, onward, items_within, items_of, is_zero, ends_at}
+use Rattle.gsym_parser.specs.Items.{end_onward, closed_within, closed_of}
 use Rattle.gsym_parser.proofs.Inside.{u32_taken}
 
 -- an item takes bytes
@@ -16,13 +18,15 @@ sized-shorter kind bytes item rest e =
     let n = bind_some (u32_front bytes) _ _ e in
     let t = u32_taken bytes n.0.0 n.0.1 n.1 in
     let m = need_some (leb n.0.0 (length n.0.1)) _ _ n.2 in
-    let p : ◌≡◌ {A = ItemData × List ℕ} (record { kind = kind; bytes = take n.0.0 n.0.1 }, drop n.0.0 n.0.1) (item, rest) = cc m.1
+    let p : ◌≡◌ {A = ItemData × List ℕ} (record { kind = kind; bytes = take n.0.0 n.0.1 }, drop n.0.0 n.0.1)
+    (item, rest) = cc m.1
     in
     let l = ap (λ r. length r.1) p in
     omega (arith, t.1, ap length t.0, length-drop n.0.0 n.0.1, length-drop 4 bytes)
 
 pub front_shorter :
-    (bytes : List ℕ) (item : ItemData) (rest : List ℕ) → item_front bytes ≡ Some (item, rest) → length rest < length bytes
+    (bytes : List ℕ) (item : ItemData) (rest : List ℕ) → item_front bytes ≡ Some (item, rest) →
+    length rest < length bytes
 unfolding item_front
 front_shorter bytes item rest e =
     let k = bind_some (u32_front bytes) _ _ e in
@@ -43,7 +47,8 @@ onward-same f g None h = refl
 onward-same f g (Some (item, rest)) h = ap (λ items. item ∷ items) (h item rest refl)
 
 -- more turns than bytes change nothing
-within-more : (k j : ℕ) (bytes : List ℕ) → length bytes < k → length bytes < j → items_within k bytes ≡ items_within j bytes
+within-more :
+    (k j : ℕ) (bytes : List ℕ) → length bytes < k → length bytes < j → items_within k bytes ≡ items_within j bytes
 unfolding items_within
 within-more zero j bytes h g = absurd (omega arith)
 within-more (suc k) zero bytes h g = absurd (omega arith)
@@ -59,11 +64,13 @@ items_step bytes = onward-same _ _ (item_front bytes) (λ item rest e.
 
 end-same :
     (f g : List ℕ → Bool) (end : Bool) (r : Option (ItemData × List ℕ)) →
-    ((item : ItemData) (rest : List ℕ) → r ≡ Some (item, rest) → f rest ≡ g rest) → end_onward f end r ≡ end_onward g end r
+    ((item : ItemData) (rest : List ℕ) → r ≡ Some (item, rest) → f rest ≡ g rest) →
+    end_onward f end r ≡ end_onward g end r
 end-same f g end None h = refl
 end-same f g end (Some (item, rest)) h = h item rest refl
 
-closed-more : (k j : ℕ) (bytes : List ℕ) → length bytes < k → length bytes < j → closed_within k bytes ≡ closed_within j bytes
+closed-more :
+    (k j : ℕ) (bytes : List ℕ) → length bytes < k → length bytes < j → closed_within k bytes ≡ closed_within j bytes
 unfolding closed_within
 closed-more zero j bytes h g = absurd (omega arith)
 closed-more (suc k) zero bytes h g = absurd (omega arith)

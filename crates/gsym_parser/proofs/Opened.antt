@@ -10,7 +10,8 @@ use Rattle.gsym_parser.specs.declared.Tables.{Tables}
 use Rattle.gsym_parser.specs.declared.opening.Header.{Header}
 use Rattle.gsym_parser.specs.View.{View}
 use Rattle.gsym_parser.specs.Within.{Within}
-use Rattle.gsym_parser.specs.Numbers.{numbers_of}
+use Rattle.gsym_parser.specs.Format.{magic_number, version_number, header_len}
+use Rattle.gsym_parser.specs.Numbers.{file_header}
 use Rattle.gsym_parser.specs.Header.{file_count_place, files_place, tables_with, tables_of, opened_of}
 use Rattle.gsym_parser.proofs.Inside.{read_within}
 
@@ -40,13 +41,12 @@ pub opened_whole :
 unfolding opened_of
 opened_whole file v e =
     let magic = bind_ok (given TooFewBytes (u32_at file 0)) _ v e in
-    let m = need_ok (eqb magic.0 0x4753594d) _ _ v magic.2 in
+    let m = need_ok (eqb magic.0 magic_number) _ _ v magic.2 in
     let version = bind_ok (given TooFewBytes (u16_at file 4)) _ v m.1 in
-    let one = need_ok (eqb version.0 1) _ _ v version.2 in
-    let there = need_ok (leb 48 (length file)) _ _ v one.1 in
-    let header = bind_ok (given TooFewBytes (numbers_of file)) _ v there.1 in
-    let tables = bind_ok (tables_of file header.0) _ v header.2 in
-    let w : Within file tables.0 = placed_within file header.0 tables.0 tables.1 in
+    let one = need_ok (eqb version.0 version_number) _ _ v version.2 in
+    let there = need_ok (leb header_len (length file)) _ _ v one.1 in
+    let tables = bind_ok (tables_of file (file_header file)) _ v there.1 in
+    let w : Within file tables.0 = placed_within file (file_header file) tables.0 tables.1 in
     rw (← ok_is _ _ tables.2) (refl, w)
 
 pub opened_file : (file : List ℕ) (v : View) → opened_of file ≡ Ok v → v.file ≡ file

@@ -1,6 +1,7 @@
 -- What an entry says: where its bytes stand, and where there is no row.
 -- Assumes nothing.
-use Rattle.std.proofs.Common.{Option, Some, None, ◌≡◌, ℕ, ◌+◌, ◌≤◌, List, [], length, drop, sym, ap, ◌∙◌, arith, le-ltb, length-drop, drop-drop}
+use Rattle.std.proofs.Common.{Option, Some, None, ◌≡◌, ℕ, ◌+◌, ◌≤◌, List, [], length, drop, sym, ap, ◌∙◌, arith, le-ltb}
+use Rattle.std.proofs.Common.{length-drop, drop-drop}
 use Rattle.gsym_types.specs.declared.FileIndex.{FileIndex}
 use Rattle.gsym_reads.specs.Fronts.{u32_front}
 use Rattle.gsym_reads.proofs.Maybe.{bind_some}

@@ -1,6 +1,7 @@
 -- The entry that is chosen for an address in a file: what it is, its symbol's address, and where there is none.
 -- Assumes nothing.
-use Rattle.std.proofs.Common.{Some, None, ◌≡◌, ℕ, ◌+◌, ◌-◌, ◌^◌, ◌<◌, ◌≤◌, Bool, true, false, length, get_or, sym, refl, ◌∙◌, ⊎_elim, mod-eq_of_lt, arith, le-ltb, lt-ltb}
+use Rattle.std.proofs.Common.{Some, None, ◌≡◌, ℕ, ◌+◌, ◌-◌, ◌^◌, ◌<◌, ◌≤◌, Bool, true, false, length, get_or, sym, refl}
+use Rattle.std.proofs.Common.{◌∙◌, ⊎_elim, mod-eq_of_lt, arith, le-ltb, lt-ltb}
 use Rattle.std.proofs.lemmas.Bool.{cases_lt}
 use Rattle.gsym_types.specs.declared.Address.{Address}
 use Rattle.gsym_parser.specs.View.{View}

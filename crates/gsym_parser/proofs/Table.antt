@@ -1,6 +1,8 @@
 -- The address table as a list: its length and its entries.
 -- Assumes nothing.
-use Rattle.std.proofs.Common.{◌≡◌, ℕ, zero, suc, ◌+◌, ◌*◌, ◌<◌, ◌≤◌, Bool, true, false, ◌⊎◌, List, length, get_or, drop, refl, ap, ◌∙◌, inl, inr, mul-le-mul_right, add-mul, arith, drop-drop, ne_eqb, Some, None, sym, if◌then◌else◌}
+use Rattle.std.proofs.Common.{◌≡◌, ℕ, zero, suc, ◌+◌, ◌*◌, ◌<◌, ◌≤◌, Bool, true, false, ◌⊎◌, List, length, get_or, drop}
+use Rattle.std.proofs.Common.{refl, ap, ◌∙◌, inl, inr, mul-le-mul_right, add-mul, arith, drop-drop, ne_eqb, Some, None}
+use Rattle.std.proofs.Common.{sym, if◌then◌else◌}
 use Rattle.std.specs.List.{slice_get}
 use Rattle.std.proofs.lemmas.Option.{slice_get_past, slice_get-get_or}
 use Rattle.gsym_parser.specs.View.{View}
@@ -47,10 +49,12 @@ length-entries size zero bytes = refl
 length-entries size (suc n) bytes = ap suc (length-entries size n (drop size bytes))
 
 pub entry-is :
-    (size n i : ℕ) (bytes : List ℕ) → i < n → get_or (entries size n bytes) i 0 ≡ entry_number size (drop (i * size) bytes)
+    (size n i : ℕ) (bytes : List ℕ) → i < n →
+    get_or (entries size n bytes) i 0 ≡ entry_number size (drop (i * size) bytes)
 unfolding entries
 entry-is size zero i bytes h = absurd (omega arith)
-entry-is size (suc n) zero bytes h = let q : 0 ≡ 0 * size = omega arith in ap (λ at. entry_number size (drop at bytes)) q
+entry-is size (suc n) zero bytes h =
+    let q : 0 ≡ 0 * size = omega arith in ap (λ at. entry_number size (drop at bytes)) q
 entry-is size (suc n) (suc i) bytes h =
     let q : size + i * size ≡ suc i * size = omega arith in
     entry-is size n i (drop size bytes) (omega arith)

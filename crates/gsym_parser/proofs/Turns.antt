@@ -1,7 +1,8 @@
 -- The search on the table in place: each turn of the code is a turn of the search on the list, and each way out its
 -- case.
 -- Assumes nothing.
-use Rattle.std.proofs.Common.{Some, None, ◌≡◌, ℕ, ◌+◌, ◌-◌, ◌*◌, ◌/◌, ◌<◌, ◌≤◌, List, get_or, drop, sym, refl, ap, ◌∙◌, arith, le-leb}
+use Rattle.std.proofs.Common.{Some, None, ◌≡◌, ℕ, ◌+◌, ◌-◌, ◌*◌, ◌/◌, ◌<◌, ◌≤◌, List, get_or, drop, sym, refl, ap, ◌∙◌}
+use Rattle.std.proofs.Common.{arith, le-leb}
 use Rattle.std.proofs.lemmas.Bool.{lt-leb}
 use Rattle.gsym_parser.specs.Search.{entry_number, chosen_from, find_in, entries, with_entry}
 use Rattle.gsym_parser.proofs.Table.{length-entries, entry-is}
@@ -15,7 +16,8 @@ module _ (size n : ℕ) (bytes : List ℕ) (wanted : ℕ) where
     pub same : chosen_from (entries size n bytes) wanted 0 n ≡ chosen_from (entries size n bytes) wanted lo len
     pub kept-is : kept ≡ get_or (entries size n bytes) lo 0
 
-  first-is : (e : ℕ) → (n ≡ 0 → ⊥) → e ≡ entry_number size (drop (0 * size) bytes) → e ≡ get_or (entries size n bytes) 0 0
+  first-is :
+      (e : ℕ) → (n ≡ 0 → ⊥) → e ≡ entry_number size (drop (0 * size) bytes) → e ≡ get_or (entries size n bytes) 0 0
   first-is e h r = r ∙ sym (entry-is size n 0 bytes (omega arith))
 
   pub begins : (n ≡ 0 → ⊥) → (e : ℕ) → e ≡ entry_number size (drop (0 * size) bytes) → Sofar 0 e n
@@ -49,7 +51,9 @@ module _ (size n : ℕ) (bytes : List ℕ) (wanted : ℕ) where
 
   -- no entries, or the first above
   pub none : n ≡ 0 → None ≡ with_entry (entries size n bytes) (find_in (entries size n bytes) wanted)
-  none h = ap (with_entry (entries size n bytes)) (find-empty (entries size n bytes) wanted (length-entries size n bytes ∙ h))
+  none h =
+      ap (with_entry (entries size n bytes))
+      (find-empty (entries size n bytes) wanted (length-entries size n bytes ∙ h))
 
   pub starts-above : (e : ℕ) → (n ≡ 0 → ⊥) → e ≡ entry_number size (drop (0 * size) bytes) → wanted < e
       → None ≡ with_entry (entries size n bytes) (find_in (entries size n bytes) wanted)

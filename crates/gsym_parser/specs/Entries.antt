@@ -7,7 +7,8 @@
 --   file table       per file:  directory 4, file name 4, offsets in the string table
 --
 -- Assumes nothing.
-use Rattle.std.specs.Prelude.{ℕ, ◌+◌, ◌-◌, ◌*◌, ◌%◌, ◌^◌, Bool, true, false, List, Option, Some, drop, ◌==◌, nat_lt, slice_index, if◌then◌else◌}
+use Rattle.std.specs.Prelude.{ℕ, ◌+◌, ◌-◌, ◌*◌, ◌%◌, ◌^◌, Bool, true, false, List, Option, Some, drop, ◌==◌, nat_lt}
+use Rattle.std.specs.Prelude.{slice_index, if◌then◌else◌}
 use Rattle.gsym_reads.specs.Maybe.{◌>>=◌, ◌>>◌, need}
 use Rattle.gsym_reads.specs.Fronts.{u32_front}
 use Rattle.gsym_types.specs.declared.Address.{Address}

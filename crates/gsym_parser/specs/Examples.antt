@@ -1,7 +1,8 @@
 -- A small file, written out, and what it says: where its tables stand, which entry an address has, what an entry says,
 -- and the items of a list (RULES, "Header and tables", "Finding the entry" and "Address data list").
 -- Assumes nothing.
-use Rattle.std.specs.Prelude.{◌≡◌, ℕ, true, false, List, [], ◌∷◌, ◌++◌, Option, Some, None, Ok, Err, map, take, replicate}
+use Rattle.std.specs.Prelude.{◌≡◌, ℕ, true, false, List, [], ◌∷◌, ◌++◌, Option, Some, None, Ok, Err, map, take}
+use Rattle.std.specs.Prelude.{replicate}
 use Rattle.gsym_types.specs.declared.Address.{Address}
 use Rattle.gsym_types.specs.declared.Refusal.TheVariants.{TooFewBytes, WrongMagic, WrongVersion}
 use Rattle.gsym_parser.specs.View.{View}
@@ -22,7 +23,7 @@ header =
     magic ++ (1 ∷ 0 ∷ 2 ∷ 0x14 ∷ []) ++ (0 ∷ 0x10 ∷ 0 ∷ 0 ∷ 0 ∷ 0 ∷ 0 ∷ 0 ∷ [])
     ++ four 3 ++ four 80 ++ four 5 ++ replicate 20 0x55
 
--- entries 0, 0x10 and 0x30; two bytes that are skipped; data offsets; one file, whose directory is at 1 and its name at 3
+-- entries 0, 0x10 and 0x30; two bytes that are skipped; data offsets; one file, its directory at 1 and its name at 3
 abbrev pub tables : List ℕ
 tables =
     (0 ∷ 0 ∷ 0x10 ∷ 0 ∷ 0x30 ∷ 0 ∷ 0xee ∷ 0xee ∷ []) ++ four 85 ++ four 85 ++ four 200
@@ -101,10 +102,11 @@ pub record SmallFile : Type 0 where
       covered_by (at 0x100f) (at 0x1000) 16 ∷ covered_by (at 0x1010) (at 0x1000) 16
       ∷ covered_by (at 0xffffffffffffffff) (at 0x1000) 0 ∷ covered_by (at 0xfff) (at 0x1000) 0 ∷ []
       ≡ true ∷ false ∷ true ∷ false ∷ []
-  -- what the entries say: the third's data offset is past the end, and there is no fourth; the one row of the file table
+  -- what the entries say: the third's data offset is past the end, there is no fourth; the one row of the file table
   pub infos :
       map (info_at opened) (1 ∷ 2 ∷ 3 ∷ []) ≡ Some (record { size = 16; name = 3; bytes = list }) ∷ None ∷ None ∷ []
-  pub row : file_at opened (record { 0 = 0 }) ≡ Some (record { directory = record { 0 = 1 }; filename = record { 0 = 3 } })
+  pub row :
+      file_at opened (record { 0 = 0 }) ≡ Some (record { directory = record { 0 = 1 }; filename = record { 0 = 3 } })
   pub no_row : file_at opened (record { 0 = 1 }) ≡ None
   -- the list, and the same cut in front of its end and inside its item
   pub items : items_of list ≡ record { kind = 1; bytes = 0xaa ∷ 0xbb ∷ [] } ∷ []

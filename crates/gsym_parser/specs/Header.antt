@@ -18,12 +18,13 @@ use Rattle.gsym_types.specs.declared.Refusal.TheVariants.{TooFewBytes, WrongMagi
 use Rattle.gsym_parser.specs.declared.Tables.{Tables}
 use Rattle.gsym_parser.specs.declared.opening.Header.{Header}
 use Rattle.gsym_parser.specs.View.{View}
-use Rattle.gsym_parser.specs.Numbers.{numbers_of}
+use Rattle.gsym_parser.specs.Format.{magic_number, version_number, header_len}
+use Rattle.gsym_parser.specs.Numbers.{file_header}
 pub use Rattle.gsym_parser.specs.Within.{Within}
 
 -- where the data offsets, the file count and the file table stand
 abbrev pub offsets_place : Header → ℕ
-offsets_place h = next_multiple_of (48 + h.count * h.offset_size) 4
+offsets_place h = next_multiple_of (header_len + h.count * h.offset_size) 4
 
 abbrev pub file_count_place : Header → ℕ
 file_count_place h = offsets_place h + h.count * 4
@@ -37,7 +38,7 @@ tables_with h n = record {
   offset_size = h.offset_size;
   base = h.base;
   count = h.count;
-  addrs = 48;
+  addrs = header_len;
   offsets = offsets_place h;
   file_count = n;
   files = files_place h;
@@ -56,10 +57,9 @@ tables_of file h = do
 unfoldable pub opened_of : List ℕ → Result View Refusal
 opened_of file = do
   magic ← given TooFewBytes (u32_at file 0)
-  need (magic == 0x4753594d) WrongMagic
+  need (magic == magic_number) WrongMagic
   version ← given TooFewBytes (u16_at file 4)
-  need (version == 1) WrongVersion
-  need (nat_le 48 (length file)) TooFewBytes
-  header ← given TooFewBytes (numbers_of file)
-  tables ← tables_of file header
+  need (version == version_number) WrongVersion
+  need (nat_le header_len (length file)) TooFewBytes
+  tables ← tables_of file (file_header file)
   Ok (record { file = file; tables = tables })

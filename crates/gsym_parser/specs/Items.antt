@@ -6,7 +6,8 @@
 --
 -- The list also ends at an item that doesn't fit.
 -- Assumes nothing.
-use Rattle.std.specs.Prelude.{ℕ, zero, suc, Bool, false, List, [], ◌∷◌, Option, Some, None, length, take, drop, ◌==◌, nat_le, if◌then◌else◌}
+use Rattle.std.specs.Prelude.{ℕ, zero, suc, Bool, false, List, [], ◌∷◌, Option, Some, None, length, take, drop, ◌==◌}
+use Rattle.std.specs.Prelude.{nat_le, if◌then◌else◌}
 use Rattle.gsym_reads.specs.Maybe.{◌>>=◌, ◌>>◌, need}
 use Rattle.gsym_reads.specs.Fronts.{u32_front}
 use Rattle.gsym_parser.specs.declared.items.Item.{Item}

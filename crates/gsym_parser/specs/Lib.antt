@@ -1,3 +1,4 @@
+pub mod Format
 pub mod Within
 pub mod View
 pub mod Numbers

@@ -12,23 +12,21 @@
 --   28      20       UUID
 --
 -- Assumes nothing.
-use Rattle.std.specs.Prelude.{ℕ, List, Option, Some}
-use Rattle.gsym_reads.specs.Maybe.{◌>>=◌}
-use Rattle.gsym_reads.specs.Answers.{u8_at, u32_at, u64_at}
+use Rattle.std.specs.Prelude.{ℕ, List, take, drop, slice_index}
+use Rattle.std.specs.Int.{w32, w64, from_le_bytes}
 use Rattle.gsym_parser.specs.declared.opening.Header.{Header}
+use Rattle.gsym_parser.specs.Format.{header_len}
 
--- those that are kept
-unfoldable pub numbers_of : List ℕ → Option Header
-numbers_of file = do
-  offset_size ← u8_at file 6
-  base ← u64_at file 8
-  count ← u32_at file 16
-  strings_offset ← u32_at file 20
-  strings_size ← u32_at file 24
-  Some (record {
-    offset_size = offset_size;
-    base = record { 0 = base };
-    count = count;
-    strings_offset = strings_offset;
-    strings_size = strings_size;
-  })
+-- those that are kept, of a header's bytes
+unfoldable pub numbers_of : List ℕ → Header
+numbers_of bytes = record {
+  offset_size = slice_index bytes 6;
+  base = record { 0 = from_le_bytes w64 (drop 8 bytes) };
+  count = from_le_bytes w32 (drop 16 bytes);
+  strings_offset = from_le_bytes w32 (drop 20 bytes);
+  strings_size = from_le_bytes w32 (drop 24 bytes);
+}
+
+-- those of the header that a file begins with
+abbrev pub file_header : List ℕ → Header
+file_header file = numbers_of (take header_len file)

@@ -2,11 +2,13 @@
 --
 --   address table    count numbers of offset size bytes, one after another; the offset size is 1, 2, 4 or 8
 --
--- The search is on a list of numbers; the file is in `entries_of` and `find_of` alone. `find_in` is a search by halving,
--- so that the answer is settled in every table, also in one that falls, where several entries may fit. The laws `chosen`
--- and `chosen-unique` give it its meaning.
+-- The search is on a list of numbers; the file is in `entries_of` and `find_of` alone. `find_in` is a search by
+-- halving, so that the answer is settled in every table, also in one that falls, where several entries may fit. The
+-- laws `chosen` and `chosen-unique` give it its meaning.
 -- Assumes nothing.
-use Rattle.std.specs.Prelude.{◌≡◌, ℕ, zero, suc, ◌+◌, ◌-◌, ◌/◌, ◌<◌, ◌≤◌, Bool, true, false, ◌⊎◌, List, [], ◌∷◌, Option, Some, None, map, length, drop, ◌==◌, nat_le, nat_lt, slice_index, option_map, if◌then◌else◌}
+use Rattle.std.specs.Prelude.{◌≡◌, ℕ, zero, suc, ◌+◌, ◌-◌, ◌/◌, ◌<◌, ◌≤◌, Bool, true, false, ◌⊎◌, List, [], ◌∷◌, Option}
+use Rattle.std.specs.Prelude.{Some, None, map, length, drop, ◌==◌, nat_le, nat_lt, slice_index, option_map}
+use Rattle.std.specs.Prelude.{if◌then◌else◌}
 use Rattle.std.specs.Int.{Width, w8, w16, w32, w64, from_le_bytes}
 use Rattle.gsym_types.specs.declared.Address.{Address}
 use Rattle.gsym_parser.specs.View.{View}
@@ -16,7 +18,8 @@ unfoldable pub halving : ℕ → List ℕ → ℕ → ℕ → ℕ → ℕ
 halving zero table wanted lo len = lo
 halving (suc k) table wanted lo len =
     if nat_le len 1 then lo
-    else halving k table wanted (if nat_le (slice_index table (lo + len / 2)) wanted then lo + len / 2 else lo) (len - len / 2)
+    else halving k table wanted (if nat_le (slice_index table (lo + len / 2)) wanted then lo + len / 2 else lo)
+    (len - len / 2)
 
 -- the index that is chosen among the len entries from lo on: each turn takes at least one of them away, so len turns
 -- are enough

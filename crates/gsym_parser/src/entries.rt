@@ -1,5 +1,5 @@
-//! What an entry of the address table says: size and name of its symbol, and the bytes of its address data list; and the
-//! rows of the file table (RULES, "Header and tables" and "Finding the entry").
+//! What an entry of the address table says: size and name of its symbol, and the bytes of its address data list; and
+//! the rows of the file table (RULES, "Header and tables" and "Finding the entry").
 ghost use Rattle.std.specs.Prelude.{◌≡◌, ◌+◌, ◌<◌, ◌≤◌, ◌⊎◌, ◌↔◌, option_map, length, IsNone, IsSomeAnd};
 ghost use Rattle.gsym_parser.specs.Entries.{offset_at, info_at, info_view, covered_by, file_at};
 ghost use Rattle.gsym_parser.specs.View.{view};
@@ -38,11 +38,11 @@ impl<'a> GsymContext<'a> {
     {
         let place = self.data_offset(index)?;
         let info = self.file.get(place as usize..)?;
-        let (size, rest) = info.split_first_chunk::<4>()?;
-        let (name, data) = rest.split_first_chunk::<4>()?;
+        let (size, rest) = gsym_reads::u32_front(info)?;
+        let (name, data) = gsym_reads::u32_front(rest)?;
         Some(AddrInfo {
-            size: u32::from_le_bytes(*size),
-            name: StrOffset(u32::from_le_bytes(*name)),
+            size,
+            name: StrOffset(name),
             data,
         })
     }
@@ -57,8 +57,8 @@ impl<'a> GsymContext<'a> {
             return None;
         }
         let offsets = &self.file[self.tables.offsets + index * 4..];
-        let (place, _) = offsets.split_first_chunk::<4>()?;
-        Some(u32::from_le_bytes(*place))
+        let (place, _) = gsym_reads::u32_front(offsets)?;
+        Some(place)
     }
 
     /// The row of the file table at an index. None where the index is not below the file count (RULES, "Header
@@ -72,11 +72,11 @@ impl<'a> GsymContext<'a> {
             return None;
         }
         let row = &self.file[self.tables.files + index.0 as usize * 8..];
-        let (directory, row) = row.split_first_chunk::<4>()?;
-        let (filename, _) = row.split_first_chunk::<4>()?;
+        let (directory, row) = gsym_reads::u32_front(row)?;
+        let (filename, _) = gsym_reads::u32_front(row)?;
         Some(FileInfo {
-            directory: StrOffset(u32::from_le_bytes(*directory)),
-            filename: StrOffset(u32::from_le_bytes(*filename)),
+            directory: StrOffset(directory),
+            filename: StrOffset(filename),
         })
     }
 }
@@ -94,5 +94,5 @@ pub fn covers(addr: Address, symbol: Address, size: u32) -> bool
         return true;
     }
     let past = addr.0 - symbol.0;
-    past < size as u64
+    past < u64::from(size)
 }

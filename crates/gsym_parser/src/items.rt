@@ -40,10 +40,10 @@ impl<'a> Items<'a> {
         ensures closed { items_left self.now ≡ [] → result ≡ closed_of self.now.rest.now }
         ensures exact { result ≡ ends_at self.now.rest.now }
     {
-        let Some((kind, _)) = self.rest.split_first_chunk::<4>() else {
+        let Some((kind, _)) = gsym_reads::u32_front(self.rest) else {
             return false;
         };
-        u32::from_le_bytes(*kind) == 0
+        kind == 0
     }
 
     // The next item, and the bytes after it.
@@ -52,13 +52,12 @@ impl<'a> Items<'a> {
     fn split(&self) -> Option<(Item<'a>, &'a [u8])>
         ensures { option_map (λ p. (item_view p.0, p.1.now)) result ≡ item_front self.now.rest.now }
     {
-        let (kind, rest) = self.rest.split_first_chunk::<4>()?;
-        let kind = u32::from_le_bytes(*kind);
+        let (kind, rest) = gsym_reads::u32_front(self.rest)?;
         if kind == 0 {
             return None;
         }
-        let (len, rest) = rest.split_first_chunk::<4>()?;
-        let len = u32::from_le_bytes(*len) as usize;
+        let (len, rest) = gsym_reads::u32_front(rest)?;
+        let len = len as usize;
         if rest.len() < len {
             return None;
         }

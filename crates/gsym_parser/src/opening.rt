@@ -23,8 +23,8 @@ pub(crate) struct Header {
 }
 
 impl<'a> GsymContext<'a> {
-    /// Opens a file. Refused is a wrong magic, judged once 4 bytes are there; a version other than 1, judged once 6 are;
-    /// and too few bytes for the header, a table or the string table (RULES, "Header and tables").
+    /// Opens a file. Refused is a wrong magic, judged once 4 bytes are there; a version other than 1, judged once 6
+    /// are; and too few bytes for the header, a table or the string table (RULES, "Header and tables").
     pub fn parse_header(file: &'a [u8]) -> Result<GsymContext<'a>, Refusal>
         // Refused exactly for what is missing or wrong first, in the order in which RULES judges.
         ensures refused { (r : Refusal) → IsErrOf result r ↔ Unopened file.now r }
@@ -47,32 +47,28 @@ impl<'a> GsymContext<'a> {
         if version != VERSION {
             return Err(Refusal::WrongVersion);
         }
-        if file.len() < HEADER_LEN {
-            return Err(Refusal::TooFewBytes);
-        }
-        let header = header_numbers(file).ok_or(Refusal::TooFewBytes)?;
-        let tables = place_tables(file, header)?;
+        let header = file
+            .first_chunk::<HEADER_LEN>()
+            .ok_or(Refusal::TooFewBytes)?;
+        let tables = place_tables(file, header_numbers(header))?;
         Ok(GsymContext { file, tables })
     }
 }
 
 // The header's numbers.
 #[tactic(auto, unfolding(crate::specs::Numbers::numbers_of))]
-fn header_numbers(file: &[u8]) -> Option<Header>
-    ensures { result ≡ numbers_of file.now }
+fn header_numbers(bytes: &[u8; HEADER_LEN]) -> Header
+    ensures { result ≡ numbers_of bytes.now }
 {
-    let offset_size = gsym_reads::u8_at(file, 6)?;
-    let base = gsym_reads::u64_at(file, 8)?;
-    let count = gsym_reads::u32_at(file, 16)?;
-    let strings_offset = gsym_reads::u32_at(file, 20)?;
-    let strings_size = gsym_reads::u32_at(file, 24)?;
-    Some(Header {
-        offset_size,
-        base: Address(base),
-        count,
-        strings_offset,
-        strings_size,
-    })
+    Header {
+        offset_size: bytes[6],
+        base: Address(u64::from_le_bytes([
+            bytes[8], bytes[9], bytes[10], bytes[11], bytes[12], bytes[13], bytes[14], bytes[15],
+        ])),
+        count: u32::from_le_bytes([bytes[16], bytes[17], bytes[18], bytes[19]]),
+        strings_offset: u32::from_le_bytes([bytes[20], bytes[21], bytes[22], bytes[23]]),
+        strings_size: u32::from_le_bytes([bytes[24], bytes[25], bytes[26], bytes[27]]),
+    }
 }
 
 // Where the tables stand. No sum wraps: the count is below 2^32 and an entry below 2^8 bytes, so the address table ends
@@ -82,7 +78,7 @@ fn header_numbers(file: &[u8]) -> Option<Header>
 fn place_tables(file: &[u8], header: Header) -> Result<Tables, Refusal>
     ensures { result ≡ tables_of file.now header }
 {
-    let size = header.offset_size as usize;
+    let size = usize::from(header.offset_size);
     let count = header.count as usize;
     let addrs_end = HEADER_LEN + count * size;
     let offsets = addrs_end.next_multiple_of(4);

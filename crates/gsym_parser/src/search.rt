@@ -1,7 +1,9 @@
 //! The entry of an address: a halving search on the address table in place (RULES, "Finding the entry").
-ghost use Rattle.std.specs.Prelude.{◌≡◌, ◌+◌, ◌-◌, ◌*◌, ◌<◌, ◌≤◌, ◌⊎◌, ◌↔◌, ℕ, true, false, Option, Some, length, drop, slice_index, slice_get, option_map, IsNone, IfSome};
+ghost use Rattle.std.specs.Prelude.{◌≡◌, ◌+◌, ◌-◌, ◌*◌, ◌<◌, ◌≤◌, ◌⊎◌, ◌↔◌, ℕ, true, false, Option, Some, length, drop};
+ghost use Rattle.std.specs.Prelude.{slice_index, slice_get, option_map, IsNone, IfSome};
 ghost use Rattle.std.specs.List.Sorted.{IsNonDecreasing};
-ghost use Rattle.gsym_parser.specs.Search.{is_width, entry_number, len_of, entries, find_in, find_of, entries_of, Nowhere, Right, Chosen, LastNotAbove, with_entry, land_of, addresses_of};
+ghost use Rattle.gsym_parser.specs.Search.{is_width, entry_number, len_of, entries, find_in, find_of, entries_of};
+ghost use Rattle.gsym_parser.specs.Search.{Nowhere, Right, Chosen, LastNotAbove, with_entry, land_of, addresses_of};
 ghost use Rattle.gsym_parser.specs.Entries.{symbol_at};
 ghost use Rattle.gsym_parser.specs.View.{view};
 
@@ -18,9 +20,9 @@ pub struct Found {
 }
 
 impl<'a> GsymContext<'a> {
-    /// The entry that is chosen for an address. None for an address below the base, at an offset size other than 1, 2, 4
-    /// and 8, where there are no entries, and where the first entry is above the address minus the base (RULES, "Finding
-    /// the entry").
+    /// The entry that is chosen for an address. None for an address below the base, at an offset size other than 1, 2,
+    /// 4 and 8, where there are no entries, and where the first entry is above the address minus the base (RULES,
+    /// "Finding the entry").
     #[inline(always)]
     pub fn find_addr(&self, addr: Address) -> Option<Found>
         // An entry that isn't above, and is the last or has a next one that is above; or there is none to choose.
@@ -66,8 +68,8 @@ impl<'a> GsymContext<'a> {
         halve(&self.file[self.tables.addrs..], size, n, wanted)
     }
 
-    /// An entry of the address table as the file has it: an address less the base. None where the index is not below the
-    /// count, and at an offset size other than 1, 2, 4 and 8 (RULES, "Finding the entry").
+    /// An entry of the address table as the file has it: an address less the base. None where the index is not below
+    /// the count, and at an offset size other than 1, 2, 4 and 8 (RULES, "Finding the entry").
     #[tactic(auto, using(crate::proofs::Table::entry_past, crate::proofs::Table::entry_there))]
     pub fn entry(&self, index: usize) -> Option<u64>
         ensures exact { result ≡ slice_get (entries_of (view self.now)) index }
@@ -103,14 +105,14 @@ fn entry_at(table: &[u8], size: u8, i: usize) -> u64
     ensures { result ≡ entry_number size (drop (i * size) table.now) }
 {
     match size {
-        1 => table[i] as u64,
+        1 => u64::from(table[i]),
         2 => {
             let at = i * 2;
-            u16::from_le_bytes([table[at], table[at + 1]]) as u64
+            u64::from(u16::from_le_bytes([table[at], table[at + 1]]))
         }
         4 => {
             let at = i * 4;
-            u32::from_le_bytes([table[at], table[at + 1], table[at + 2], table[at + 3]]) as u64
+            u64::from(u32::from_le_bytes([table[at], table[at + 1], table[at + 2], table[at + 3]]))
         }
         _ => {
             let at = i * 8;
@@ -128,7 +130,8 @@ fn entry_at(table: &[u8], size: u8, i: usize) -> u64
     }
 }
 
-// The search: the chosen entry is among the `len` from `lo` on. `find_addr` gives a length that `table_len` gave.
+// The search: the chosen entry is among the `len` from `lo` on. `find_addr` gives a length that `table_len` gave. By
+// hand: std's binary search asks a slice of numbers, and the table is bytes, of numbers of four widths.
 // Whether a turn moves can't be foreseen, so nothing should branch on it. The entry at `lo` is kept beside `lo`: where
 // one test moves an index and a number just read, the compiler makes conditional moves of it, and where it moves an
 // index alone, a branch.

@@ -1,7 +1,7 @@
 -- Bytes that are shown as they are.
 -- Assumes nothing.
-use Rattle.std.proofs.Common.{◌≡◌, ℕ, suc, ◌+◌, ◌<◌, ◌≤◌, Bool, true, false, List, [], ◌∷◌, ◌++◌, length, take, drop, get_or, refl, sym, ap, ◌∙◌, arith, add-one, drop-cons}
-use Rattle.std.proofs.Math.ListN.{drop_of_length-le}
+use Rattle.std.proofs.Common.{◌≡◌, ℕ, suc, ◌≤◌, Bool, true, false, List, [], ◌∷◌, ◌++◌, length, take, drop}
+use Rattle.std.proofs.Common.{refl, sym, ap, ◌∙◌, arith}
 use Rattle.std.proofs.Math.Dec.{leb-zero}
 use Rattle.std.proofs.lemmas.Bool.{le-leb}
 use Rattle.std.proofs.lemmas.Bool.Decides.{nat_tests}
@@ -10,24 +10,20 @@ use Rattle.gsym_strtab.specs.Utf8.{sequence_len, utf8, octets, followers}
 use Rattle.gsym_printed.specs.declared.view.Form.{Form}
 use Rattle.gsym_printed.specs.declared.view.Form.TheVariants.{Lines, Pretty, Json}
 use Rattle.gsym_printed.specs.Page.{put}
-use Rattle.gsym_printed.specs.Pieces.{char_len, piece_len, is_control, is_mark, escaped_byte, escaped_piece, piece_text, said, is_bare, bare_len}
+use Rattle.gsym_printed.specs.Pieces.{char_len, piece_len, is_control, is_mark, escaped_byte, escaped_piece, piece_text}
+use Rattle.gsym_printed.specs.Pieces.{shown_text, is_bare, bare_len}
 use Rattle.gsym_printed.proofs.Put.{put_append}
-use Rattle.gsym_printed.proofs.Saying.{step-by}
+use Rattle.gsym_printed.proofs.Showing.{step-by}
 
 -- ---- counting
 
-pub bare_more : (s : List ℕ) (i : ℕ) → i < length s → is_bare (get_or s i 0) ≡ true
-    → bare_len (drop i s) ≡ suc (bare_len (drop (i + 1) s))
+bare-more : (b : ℕ) (s : List ℕ) → is_bare b ≡ true → bare_len (b ∷ s) ≡ suc (bare_len s)
 unfolding bare_len
-bare_more s i l e = rw (drop-cons s i 0 l, add-one i, e) refl
+bare-more b s e = rw e (omega arith)
 
-pub bare_stop : (s : List ℕ) (i : ℕ) → i < length s → is_bare (get_or s i 0) ≡ false → bare_len (drop i s) ≡ 0
+bare-stop : (b : ℕ) (s : List ℕ) → is_bare b ≡ false → bare_len (b ∷ s) ≡ 0
 unfolding bare_len
-bare_stop s i l e = rw (drop-cons s i 0 l, e) refl
-
-pub bare_end : (s : List ℕ) (i : ℕ) → length s ≤ i → bare_len (drop i s) ≡ 0
-unfolding bare_len
-bare_end s i l = rw (drop_of_length-le s l) refl
+bare-stop b s e = rw e refl
 
 -- ---- one of them
 
@@ -65,26 +61,25 @@ itself Lines b e = rw (uncontrolled b e) refl
 itself Pretty b e = rw (uncontrolled b e) refl
 itself Json b e = rw (below b e, uncontrolled b e, unquoted b e) refl
 
-first : (form : Form) (b : ℕ) (s : List ℕ) → is_bare b ≡ true → said form (b ∷ s) ≡ b ∷ said form s
+first : (form : Form) (b : ℕ) (s : List ℕ) → is_bare b ≡ true → shown_text form (b ∷ s) ≡ b ∷ shown_text form s
 first form b s e =
     let p : piece_len (b ∷ s) ≡ 1 = omega (arith, ascii b s (low b e)) in
-    step-by form b s 1 0 (sym p) refl refl ∙ ap (λ t. t ++ said form s) (itself form b e)
+    step-by form b s 1 0 (sym p) refl refl ∙ ap (λ t. t ++ shown_text form s) (itself form b e)
 
 -- ---- all at the front
 
 run-by : (form : Form) (b : ℕ) (s : List ℕ) (t : Bool) → is_bare b ≡ t
-    → said form s ≡ take (bare_len s) s ++ said form (drop (bare_len s) s)
-    → said form (b ∷ s) ≡ take (bare_len (b ∷ s)) (b ∷ s) ++ said form (drop (bare_len (b ∷ s)) (b ∷ s))
-unfolding bare_len
-run-by form b s true e h = rw e (first form b s e ∙ ap (λ t. b ∷ t) h)
-run-by form b s false e h = rw e refl
+    → shown_text form s ≡ take (bare_len s) s ++ shown_text form (drop (bare_len s) s)
+    → shown_text form (b ∷ s) ≡ take (bare_len (b ∷ s)) (b ∷ s) ++ shown_text form (drop (bare_len (b ∷ s)) (b ∷ s))
+run-by form b s true e h = rw (bare-more b s e) (first form b s e ∙ ap (λ t. b ∷ t) h)
+run-by form b s false e h = rw (bare-stop b s e) refl
 
-run : (form : Form) (s : List ℕ) → said form s ≡ take (bare_len s) s ++ said form (drop (bare_len s) s)
+run : (form : Form) (s : List ℕ) → shown_text form s ≡ take (bare_len s) s ++ shown_text form (drop (bare_len s) s)
 unfolding bare_len
 run form [] = refl
 run form (b ∷ s) = run-by form b s (is_bare b) refl (run form s)
 
-pub said_bare : (form : Form) (s : List ℕ) (page : List ℕ × ℕ)
-    → put page (said form s) ≡ put (put page (take (bare_len s) s)) (said form (drop (bare_len s) s))
-said_bare form s page =
-    ap (put page) (run form s) ∙ put_append page (take (bare_len s) s) (said form (drop (bare_len s) s))
+pub shown_bare : (form : Form) (s : List ℕ) (page : List ℕ × ℕ)
+    → put page (shown_text form s) ≡ put (put page (take (bare_len s) s)) (shown_text form (drop (bare_len s) s))
+shown_bare form s page =
+    ap (put page) (run form s) ∙ put_append page (take (bare_len s) s) (shown_text form (drop (bare_len s) s))

@@ -1,7 +1,9 @@
 pub mod Put
-pub mod Saying
+pub mod Showing
 pub mod Bare
 pub mod Digits
 pub mod Splitting
 pub mod Room
+pub mod Front
+pub mod Newlines
 pub mod Texts

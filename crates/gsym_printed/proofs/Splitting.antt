@@ -1,59 +1,45 @@
 -- An input is its first word, and then the words of the bytes after it.
 -- Assumes nothing.
-use Rattle.std.proofs.Common.{◌≡◌, ℕ, suc, ◌+◌, ◌<◌, ◌≤◌, Bool, true, false, List, [], ◌∷◌, ◌++◌, length, take, drop, get_or, refl, sym, ap, ◌∙◌, arith, add-one, drop-cons, append_assoc, length-take}
-use Rattle.std.proofs.Math.ListN.{drop_of_length-le}
+use Rattle.std.proofs.Common.{◌≡◌, ℕ, suc, ◌<◌, ◌≤◌, Bool, true, false, List, [], ◌∷◌, ◌++◌, length, take, drop, refl}
+use Rattle.std.proofs.Common.{sym, ap, ◌∙◌, arith, append_assoc, length-take}
+use Rattle.std.specs.Prelude.{not}
+use Rattle.std.proofs.lemmas.List.Sums.{prefix_len-le-length}
 use Rattle.gsym_printed.specs.Words.{parts, ended, words_onto, words, blank_count, word_len}
-
--- ---- counting
-
-pub blank_more : (s : List ℕ) (i : ℕ) → i < length s → parts (get_or s i 0) ≡ true
-    → blank_count (drop i s) ≡ suc (blank_count (drop (i + 1) s))
-unfolding blank_count
-blank_more s i l e = rw (drop-cons s i 0 l, add-one i, e) refl
-
-pub blank_stop : (s : List ℕ) (i : ℕ) → i < length s → parts (get_or s i 0) ≡ false → blank_count (drop i s) ≡ 0
-unfolding blank_count
-blank_stop s i l e = rw (drop-cons s i 0 l, e) refl
-
-pub blank_end : (s : List ℕ) (i : ℕ) → length s ≤ i → blank_count (drop i s) ≡ 0
-unfolding blank_count
-blank_end s i l = rw (drop_of_length-le s l) refl
-
-pub word_more : (s : List ℕ) (i : ℕ) → i < length s → parts (get_or s i 0) ≡ false
-    → word_len (drop i s) ≡ suc (word_len (drop (i + 1) s))
-unfolding word_len
-word_more s i l e = rw (drop-cons s i 0 l, add-one i, e) refl
-
-pub word_stop : (s : List ℕ) (i : ℕ) → i < length s → parts (get_or s i 0) ≡ true → word_len (drop i s) ≡ 0
-unfolding word_len
-word_stop s i l e = rw (drop-cons s i 0 l, e) refl
-
-pub word_end : (s : List ℕ) (i : ℕ) → length s ≤ i → word_len (drop i s) ≡ 0
-unfolding word_len
-word_end s i l = rw (drop_of_length-le s l) refl
-
--- ---- splitting
 
 nothing-after : {A : Type 0} (s : List A) → s ++ [] ≡ s
 nothing-after [] = refl
 nothing-after (x ∷ s) = ap (λ t. x ∷ t) (nothing-after s)
 
-word-fits-by : (t : Bool) (b : ℕ) (s : List ℕ) → parts b ≡ t → word_len s ≤ length s → word_len (b ∷ s) ≤ length (b ∷ s)
+-- ---- the lengths, a byte at a time
+
+blank-more : (b : ℕ) (s : List ℕ) → parts b ≡ true → blank_count (b ∷ s) ≡ suc (blank_count s)
+unfolding blank_count
+blank-more b s e = rw e (omega arith)
+
+blank-stop : (b : ℕ) (s : List ℕ) → parts b ≡ false → blank_count (b ∷ s) ≡ 0
+unfolding blank_count
+blank-stop b s e = rw e refl
+
+word-more : (b : ℕ) (s : List ℕ) → parts b ≡ false → word_len (b ∷ s) ≡ suc (word_len s)
 unfolding word_len
-word-fits-by true b s e l = rw e (omega arith)
-word-fits-by false b s e l = rw e (omega (arith, l))
+word-more b s e = rw e (omega arith)
+
+word-stop : (b : ℕ) (s : List ℕ) → parts b ≡ true → word_len (b ∷ s) ≡ 0
+unfolding word_len
+word-stop b s e = rw e refl
 
 word-fits : (s : List ℕ) → word_len s ≤ length s
 unfolding word_len
-word-fits [] = omega arith
-word-fits (b ∷ s) = word-fits-by (parts b) b s refl (word-fits s)
+word-fits s = prefix_len-le-length (λ b. not (parts b)) s
+
+-- ---- the words
 
 -- bytes that part words, at the front, make none
 skipped-by : (t : Bool) (b : ℕ) (s : List ℕ) → parts b ≡ t → words_onto [] s ≡ words_onto [] (drop (blank_count s) s)
     → words_onto [] (b ∷ s) ≡ words_onto [] (drop (blank_count (b ∷ s)) (b ∷ s))
-unfolding words_onto blank_count
-skipped-by true b s e h = rw e h
-skipped-by false b s e h = rw (e, e) refl
+unfolding words_onto
+skipped-by true b s e h = rw (blank-more b s e, e) h
+skipped-by false b s e h = rw (blank-stop b s e, e) refl
 
 skipped : (s : List ℕ) → words_onto [] s ≡ words_onto [] (drop (blank_count s) s)
 unfolding blank_count
@@ -64,9 +50,8 @@ skipped (b ∷ s) = skipped-by (parts b) b s refl (skipped s)
 no-word-by : (t : Bool) (b : ℕ) (s : List ℕ) → parts b ≡ t
     → (word_len (drop (blank_count s) s) ≡ 0 → drop (blank_count s) s ≡ [])
     → word_len (drop (blank_count (b ∷ s)) (b ∷ s)) ≡ 0 → drop (blank_count (b ∷ s)) (b ∷ s) ≡ []
-unfolding blank_count word_len
-no-word-by true b s e h = rw e h
-no-word-by false b s e h = rw (e, e) (λ z. absurd (omega (arith, z)))
+no-word-by true b s e h = rw (blank-more b s e) h
+no-word-by false b s e h = rw (blank-stop b s e) (λ z. absurd (omega (arith, z, word-more b s e)))
 
 no-word : (s : List ℕ) → word_len (drop (blank_count s) s) ≡ 0 → drop (blank_count s) s ≡ []
 unfolding blank_count
@@ -79,10 +64,10 @@ taken-by : (t : Bool) (w : List ℕ) (b : ℕ) (s : List ℕ) → parts b ≡ t
     ≡ ended ((w ++ b ∷ []) ++ take (word_len s) s) ++ words_onto [] (drop (word_len s) s))
     → words_onto w (b ∷ s)
     ≡ ended (w ++ take (word_len (b ∷ s)) (b ∷ s)) ++ words_onto [] (drop (word_len (b ∷ s)) (b ∷ s))
-unfolding words_onto word_len
-taken-by true w b s e h = rw (e, nothing-after w) (rw e refl)
+unfolding words_onto
+taken-by true w b s e h = rw (word-stop b s e, e, nothing-after w) refl
 taken-by false w b s e h =
-    rw e
+    rw (word-more b s e, e)
     (h ∙ ap (λ t. ended t ++ words_onto [] (drop (word_len s) s)) (append_assoc w (b ∷ []) (take (word_len s) s)))
 
 taken : (w s : List ℕ) → words_onto w s ≡ ended (w ++ take (word_len s) s) ++ words_onto [] (drop (word_len s) s)

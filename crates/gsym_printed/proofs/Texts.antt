@@ -1,19 +1,19 @@
 -- No text steers a terminal, part by part.
 -- Assumes nothing.
-use Rattle.std.proofs.Common.{◌≡◌, ◌<◌, ◌≤◌, ◌⊎◌, inl, inr, ℕ, zero, suc, ◌+◌, ◌-◌, ◌/◌, ◌%◌, Bool, true, false, ◌&&◌, ◌||◌, not, List, [], ◌∷◌, ◌++◌, length, take, refl, sym, ap, ◌∙◌, arith, lt-ltb, length-take, Option, Some, None, Result, Ok, Err}
+use Rattle.std.proofs.Common.{◌≡◌, ◌<◌, ◌≤◌, inl, inr, ℕ, zero, suc, ◌+◌, ◌-◌, ◌/◌, ◌%◌, Bool, true, false, ◌&&◌, ◌||◌}
+use Rattle.std.proofs.Common.{not, List, [], ◌∷◌, ◌++◌, length, take, refl, arith, lt-ltb, Option, Some, None, Result}
+use Rattle.std.proofs.Common.{Ok, Err}
 use Rattle.std.specs.Prelude.{nat_lt, nat_le, ◌==◌, slice_index, if◌then◌else◌, codes, decimal}
 use Rattle.std.specs.List.{flat_map, list_all}
 use Rattle.std.proofs.lemmas.List.{append-nil}
 use Rattle.std.proofs.lemmas.List.Folds.{concat-append, list_all-append}
 use Rattle.std.proofs.lemmas.Bool.Decides.{nat_tests}
 use Rattle.std.specs.Fmt.{digits, digits_onto, digit_glyph}
-use Rattle.std.proofs.lemmas.Bool.{leb-true}
 use Rattle.gsym_types.specs.declared.Answer.{Answer}
 use Rattle.gsym_types.specs.declared.Position.{Position}
 use Rattle.gsym_types.specs.declared.Refusal.{Refusal}
 use Rattle.gsym_types.specs.declared.Refusal.TheVariants as refused
 use Rattle.gsym_types.specs.Refusal.{number_of}
-use Rattle.gsym_strtab.specs.Utf8.{utf8, sequence_len}
 use Rattle.gsym_strtab.specs.Strings.{part_of}
 use Rattle.gsym.specs.declared.chain.Call.{Call}
 use Rattle.gsym.specs.CallOrder.{calls_in_order}
@@ -24,12 +24,20 @@ use Rattle.gsym_printed.specs.declared.view.Form.{Form}
 use Rattle.gsym_printed.specs.declared.view.Form.TheVariants.{Lines, Pretty, Json}
 use Rattle.gsym_printed.specs.declared.view.View.{View}
 use Rattle.gsym_printed.specs.Page.{joined, digit_byte, last_digits, digit_count, wide_hex, hex}
-use Rattle.gsym_printed.specs.Pieces.{char_len, piece_len, is_control, is_mark, mark_number, escaped_byte, escaped_piece, shown_piece, piece_text, said_after, said}
-use Rattle.gsym_printed.specs.Printed.{is_pretty, is_json, after_address, after_name, base_name, path_text, line_text, place_text, frame_text, outer_text, calls_text, name_of, unknown_text, for_each_line, refusal_line, refused_text, address_text, no_address_line, no_address_text}
-use Rattle.gsym_printed.specs.Json.{between, quoted, json_paths, json_position, json_frame, json_outer, json_calls, json_start, json_symbol, json_found, json_refused, json_no_address}
+use Rattle.gsym_printed.specs.Pieces.{char_len, piece_len, is_control, is_mark, mark_number, escaped_byte}
+use Rattle.gsym_printed.specs.Pieces.{escaped_piece, shown_piece, piece_text, shown_rest, shown_text}
+use Rattle.gsym_printed.specs.Printed.{is_pretty, is_json, after_address, after_name, base_name, path_text, line_text}
+use Rattle.gsym_printed.specs.Printed.{place_text, frame_text, outer_text, calls_text, name_of, unknown_text}
+use Rattle.gsym_printed.specs.Printed.{for_each_line, refusal_line, refused_text, address_text, no_address_line}
+use Rattle.gsym_printed.specs.Printed.{no_address_text}
+use Rattle.gsym_printed.specs.Json.{between, quoted, json_paths, json_position, json_frame, json_outer, json_calls}
+use Rattle.gsym_printed.specs.Json.{json_start, json_symbol, json_found, json_refused, json_no_address}
 use Rattle.gsym_printed.specs.Words.{words, address_of}
-use Rattle.gsym_printed.specs.Answers.{asked_for, lookup_for, said_text, json_text, answer_to, answer_text, answers_text}
+use Rattle.gsym_printed.specs.Answers.{asked_for, lookup_for, lookup_text, json_text, answer_to, answer_text}
+use Rattle.gsym_printed.specs.Answers.{answers_text}
 use Rattle.gsym_printed.specs.Plain.{is_plain_byte, is_plain_piece, IsPlain, PlainTexts}
+use Rattle.gsym_printed.proofs.Front.{IsFront, front}
+use Rattle.gsym_printed.proofs.Newlines.{shown-unbroken, name-unbroken}
 
 -- ---- texts after one another
 
@@ -120,45 +128,6 @@ plain-hex n = plain-join (plain-bytes (codes "0x") refl) (plain-last_digits (dig
 
 -- ---- pieces
 
--- a piece at the front: a byte, or a character
-IsFront : List ℕ → Type 0
-IsFront p = (length p ≡ 1) ⊎ ((0 < length p) × (char_len p ≡ length p))
-
-take-again : (n : ℕ) (s : List ℕ) → take n (take n s) ≡ take n s
-take-again zero s = refl
-take-again (suc n) [] = refl
-take-again (suc n) (b ∷ s) = ap (λ t. b ∷ t) (take-again n s)
-
-le-itself : (n : ℕ) → nat_le n n ≡ true
-le-itself n = grind (arith, nat_tests)
-
-front-char : (b : ℕ) (s : List ℕ) (m : ℕ) → suc m ≡ sequence_len b → utf8 (b ∷ take m s) ≡ true
-    → length (b ∷ take m s) ≡ suc m → char_len (b ∷ take m s) ≡ suc m
-unfolding char_len
-front-char b s m e u d = rw (sym e, d, le-itself (suc m), take-again m s, u) refl
-
--- of so many bytes as the first one says
-front-sized : (b : ℕ) (s : List ℕ) (n : ℕ) → n ≡ sequence_len b → nat_le n (length (b ∷ s)) ≡ true
-    → utf8 (take n (b ∷ s)) ≡ true → char_len (b ∷ s) ≡ n → IsFront (take (piece_len (b ∷ s)) (b ∷ s))
-unfolding IsFront
-front-sized b s zero e l u c = rw c (inl refl)
-front-sized b s (suc m) e l u c =
-    let k : suc m ≤ length (b ∷ s) = leb-true _ _ l in
-    let d : length (b ∷ take m s) ≡ suc m = omega (arith, length-take m s, k) in
-    let p : piece_len (b ∷ s) ≡ suc m = omega (arith, c) in
-    rw p (inr (omega (arith, d), front-char b s m e u d ∙ sym d))
-
-front-by : (t u : Bool) (b : ℕ) (s : List ℕ) → nat_le (sequence_len b) (length (b ∷ s)) ≡ t
-    → utf8 (take (sequence_len b) (b ∷ s)) ≡ u → IsFront (take (piece_len (b ∷ s)) (b ∷ s))
-unfolding IsFront char_len
-front-by true true b s l u = front-sized b s (sequence_len b) refl l u (rw (l, u) refl)
-front-by true false b s l u = rw (l, u) (inl refl)
-front-by false u b s l e = rw l (inl refl)
-
-front : (b : ℕ) (s : List ℕ) → IsFront (take (piece_len (b ∷ s)) (b ∷ s))
-front b s =
-    front-by (nat_le (sequence_len b) (length (b ∷ s))) (utf8 (take (sequence_len b) (b ∷ s))) b s refl refl
-
 same : (n : ℕ) → (n == n) ≡ true
 same n = grind (arith, nat_tests)
 
@@ -215,8 +184,8 @@ text-plain Lines p f = shown-plain p f
 text-plain Pretty p f = shown-plain p f
 text-plain Json p f = escaped-plain p f
 
-plain-after : (form : Form) (k : ℕ) (s : List ℕ) → IsPlain (said_after form k s)
-unfolding said_after
+plain-after : (form : Form) (k : ℕ) (s : List ℕ) → IsPlain (shown_rest form k s)
+unfolding shown_rest
 plain-after form zero [] = plain-nil
 plain-after form (suc k) [] = plain-nil
 plain-after form zero (b ∷ s) =
@@ -224,9 +193,9 @@ plain-after form zero (b ∷ s) =
     (plain-after form (piece_len (b ∷ s) - 1) s)
 plain-after form (suc k) (b ∷ s) = plain-after form k s
 
-pub plain-said : (form : Form) (s : List ℕ) → IsPlain (said form s)
-unfolding said
-plain-said form s = plain-after form 0 s
+pub plain-shown : (form : Form) (s : List ℕ) → IsPlain (shown_text form s)
+unfolding shown_text
+plain-shown form s = plain-after form 0 s
 
 -- ---- frames
 
@@ -241,10 +210,10 @@ plain-after_address form =
 plain-path : (view : View) (file : List ℕ) (p : Position) → IsPlain (path_text view file p)
 unfolding path_text
 plain-path view file p =
-    plain-if view.base_names (plain-said view.form (base_name (part_of file p.file.place p.file.len)))
-    (plain-said view.form (part_of file p.dir.place p.dir.len)
+    plain-if view.base_names (plain-shown view.form (base_name (part_of file p.file.place p.file.len)))
+    (plain-shown view.form (part_of file p.dir.place p.dir.len)
     ⊕ plain-if (p.dir.len == 0) plain-nil (plain-bytes (codes "/") refl)
-    ⊕ plain-said view.form (part_of file p.file.place p.file.len))
+    ⊕ plain-shown view.form (part_of file p.file.place p.file.len))
 
 plain-line : (form : Form) (line : ℕ) → IsPlain (line_text form line)
 plain-line form line = plain-if (is_pretty form && (line == 0)) (plain-bytes (codes "?") refl) (plain-decimal line)
@@ -259,7 +228,7 @@ plain-frame : (view : View) (file : List ℕ) (call : Call) → IsPlain (frame_t
 unfolding frame_text
 plain-frame view file call =
     plain-if view.functions
-    (plain-said view.form (part_of file call.name.place call.name.len) ⊕ plain-after_name view.form) plain-nil
+    (plain-shown view.form (part_of file call.name.place call.name.len) ⊕ plain-after_name view.form) plain-nil
     ⊕ plain-place view file call.position ⊕ plain-bytes (codes "\n") refl
 
 plain-outer : (view : View) (file : List ℕ) (call : Call) → IsPlain (outer_text view file call)
@@ -323,7 +292,7 @@ plain-address view n = plain-if view.addresses (plain-join (plain-wide n) (plain
 plain-no_address_line : (view : View) (word : List ℕ) → IsPlain (no_address_line view word)
 unfolding no_address_line
 plain-no_address_line view word =
-    plain-bytes (codes "?? '") refl ⊕ plain-said view.form word ⊕ plain-bytes (codes "' is no address\n") refl
+    plain-bytes (codes "?? '") refl ⊕ plain-shown view.form word ⊕ plain-bytes (codes "' is no address\n") refl
 
 plain-no_address : (view : View) (word : List ℕ) → IsPlain (no_address_text view word)
 unfolding no_address_text
@@ -335,7 +304,7 @@ plain-no_address view word =
 -- ---- JSON
 
 plain-quoted : (s : List ℕ) → IsPlain (quoted s)
-plain-quoted s = plain-bytes (codes "\"") refl ⊕ plain-said Json s ⊕ plain-bytes (codes "\"") refl
+plain-quoted s = plain-bytes (codes "\"") refl ⊕ plain-shown Json s ⊕ plain-bytes (codes "\"") refl
 
 plain-between : (p : Part) → IsPlain (between p)
 unfolding between
@@ -409,11 +378,11 @@ plain-json_no_address word =
 
 -- ---- answers
 
-plain-said_text : (view : View) (file : List ℕ) (n : ℕ) (r : Result LookedUp Refusal)
-    → IsPlain (said_text view file n r)
-plain-said_text view file n (Ok l) =
+plain-lookup_text : (view : View) (file : List ℕ) (n : ℕ) (r : Result LookedUp Refusal)
+    → IsPlain (lookup_text view file n r)
+plain-lookup_text view file n (Ok l) =
     plain-join (plain-address view n) (plain-calls view file (calls_in_order l.answer l.frames))
-plain-said_text view file n (Err r) = plain-join (plain-address view n) (plain-refused view r)
+plain-lookup_text view file n (Err r) = plain-join (plain-address view n) (plain-refused view r)
 
 plain-json_text : (file : List ℕ) (n : ℕ) (r : Result LookedUp Refusal) → IsPlain (json_text file n r)
 plain-json_text file n (Ok l) = plain-json_found file n l.answer (calls_in_order l.answer l.frames)
@@ -422,7 +391,7 @@ plain-json_text file n (Err r) = plain-json_refused n r
 plain-to : (view : View) (file word : List ℕ) (o : Option ℕ) → IsPlain (answer_to view file word o)
 plain-to view file word (Some n) =
     plain-if (is_json view.form) (plain-json_text file n (lookup_for view file (asked_for view n)))
-    (plain-said_text view file n (lookup_for view file (asked_for view n)))
+    (plain-lookup_text view file n (lookup_for view file (asked_for view n)))
 plain-to view file word None =
     plain-if (is_json view.form) (plain-json_no_address word) (plain-no_address view word)
 
@@ -437,6 +406,6 @@ pub plain_texts : PlainTexts
 plain_texts = record {
   answer = plain-answer;
   answers = plain-answers;
-  shown = plain-said;
-  refusal = plain-name;
+  shown = λ form s. record { plain = plain-shown form s; unbroken = shown-unbroken form s };
+  refusal = λ r. record { plain = plain-name r; unbroken = name-unbroken r };
 }

@@ -1,6 +1,7 @@
 -- What is printed of a word, down to bytes.
 -- Assumes nothing.
-use Rattle.std.specs.Prelude.{◌≡◌, ℕ, ◌-◌, ◌^◌, true, ◌||◌, List, length, take, drop, min, max, nat_lt, if◌then◌else◌, Option, Some, None, Result, Ok, Err, option_and_then}
+use Rattle.std.specs.Prelude.{◌≡◌, ℕ, ◌-◌, ◌^◌, true, ◌||◌, List, length, take, drop, min, max, nat_lt, if◌then◌else◌}
+use Rattle.std.specs.Prelude.{Option, Some, None, Result, Ok, Err, option_and_then}
 use Rattle.std.specs.List.{flat_map}
 use Rattle.gsym_types.specs.declared.Options.{Options}
 use Rattle.gsym_types.specs.declared.Refusal.{Refusal}
@@ -34,16 +35,16 @@ lookup_for view file None = Err UnknownAddress
 
 -- ---- the text
 
-abbrev pub said_text : View → List ℕ → ℕ → Result LookedUp Refusal → List ℕ
-said_text view file n (Ok l) = address_text view n & calls_text view file (calls_in_order l.answer l.frames)
-said_text view file n (Err r) = address_text view n & refused_text view r
+abbrev pub lookup_text : View → List ℕ → ℕ → Result LookedUp Refusal → List ℕ
+lookup_text view file n (Ok l) = address_text view n & calls_text view file (calls_in_order l.answer l.frames)
+lookup_text view file n (Err r) = address_text view n & refused_text view r
 
 abbrev pub json_text : List ℕ → ℕ → Result LookedUp Refusal → List ℕ
 json_text file n (Ok l) = json_found file n l.answer (calls_in_order l.answer l.frames)
 json_text file n (Err r) = json_refused n r
 
 abbrev pub answer_by : View → List ℕ → ℕ → Result LookedUp Refusal → List ℕ
-answer_by view file n said = if is_json view.form then json_text file n said else said_text view file n said
+answer_by view file n found = if is_json view.form then json_text file n found else lookup_text view file n found
 
 abbrev pub no_answer : View → List ℕ → List ℕ
 no_answer view word = if is_json view.form then json_no_address word else no_address_text view word

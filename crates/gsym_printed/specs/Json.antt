@@ -13,7 +13,7 @@ use Rattle.gsym_printed.specs.declared.json.Part.{Part}
 use Rattle.gsym_printed.specs.declared.json.Part.TheVariants as part
 use Rattle.gsym_printed.specs.declared.view.Form.TheVariants.{Json}
 use Rattle.gsym_printed.specs.Page.{◌&◌, hex}
-use Rattle.gsym_printed.specs.Pieces.{said}
+use Rattle.gsym_printed.specs.Pieces.{shown_text}
 use Rattle.gsym_printed.specs.Printed.{name_of}
 
 -- what stands between the values
@@ -36,7 +36,7 @@ between part.NoAddress = codes "{\"address\":null,\"word\":"
 between part.EndNoAddress = codes ",\"error\":\"no address\"}\n"
 
 abbrev pub quoted : List ℕ → List ℕ
-quoted s = codes "\"" & said Json s & codes "\""
+quoted s = codes "\"" & shown_text Json s & codes "\""
 
 abbrev pub quoted_text : List ℕ → Text → List ℕ
 quoted_text file t = quoted (part_of file t.place t.len)

@@ -5,3 +5,4 @@ pub mod Printed
 pub mod Json
 pub mod Answers
 pub mod Plain
+pub mod Examples

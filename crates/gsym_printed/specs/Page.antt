@@ -1,6 +1,7 @@
 -- Writing into lent bytes: a page is the bytes and how many bytes were written so far, whether or not they fit.
 -- Assumes nothing.
-use Rattle.std.specs.Prelude.{ℕ, zero, suc, ◌+◌, ◌-◌, ◌/◌, ◌%◌, ◌^◌, List, [], ◌∷◌, ◌++◌, length, min, max, slice_set, codes, nat_lt, if◌then◌else◌}
+use Rattle.std.specs.Prelude.{ℕ, zero, suc, ◌+◌, ◌-◌, ◌/◌, ◌%◌, ◌^◌, List, [], ◌∷◌, ◌++◌, length, min, max, slice_set}
+use Rattle.std.specs.Prelude.{codes, nat_lt, if◌then◌else◌}
 
 -- a byte goes to its place, where there is room for it, and counts; the count stays at 2^64-1, which is above every
 -- list in memory

@@ -1,7 +1,9 @@
 -- A text of the file, or a word of the user, as it may be shown: cut into pieces, each a character of UTF-8 or else a
 -- single byte, none of which may steer a terminal.
 -- Assumes nothing.
-use Rattle.std.specs.Prelude.{ℕ, zero, suc, ◌+◌, ◌-◌, ◌*◌, Bool, false, ◌&&◌, ◌||◌, not, List, [], ◌∷◌, ◌++◌, length, take, max, nat_le, nat_lt, ◌==◌, slice_index, if◌then◌else◌, codes}
+use Rattle.std.specs.Prelude.{ℕ, zero, suc, ◌+◌, ◌-◌, ◌*◌, Bool, false, ◌&&◌, ◌||◌, not, List, [], ◌∷◌, ◌++◌, length}
+use Rattle.std.specs.Prelude.{take, max, nat_le, nat_lt, ◌==◌, slice_index, if◌then◌else◌, codes}
+use Rattle.std.specs.List.{prefix_len}
 use Rattle.gsym_strtab.specs.Utf8.{utf8, sequence_len}
 use Rattle.gsym_printed.specs.declared.view.Form.{Form}
 use Rattle.gsym_printed.specs.declared.view.Form.TheVariants.{Lines, Pretty, Json}
@@ -74,15 +76,15 @@ piece_text Json p = escaped_piece p
 
 -- ---- all pieces
 
--- those of the bytes behind the first k, which are said
-unfoldable pub said_after : Form → ℕ → List ℕ → List ℕ
-said_after form k [] = []
-said_after form zero (b ∷ bs) =
-    piece_text form (take (piece_len (b ∷ bs)) (b ∷ bs)) ++ said_after form (piece_len (b ∷ bs) - 1) bs
-said_after form (suc k) (b ∷ bs) = said_after form k bs
+-- those of the bytes behind the first k, which are shown
+unfoldable pub shown_rest : Form → ℕ → List ℕ → List ℕ
+shown_rest form k [] = []
+shown_rest form zero (b ∷ bs) =
+    piece_text form (take (piece_len (b ∷ bs)) (b ∷ bs)) ++ shown_rest form (piece_len (b ∷ bs) - 1) bs
+shown_rest form (suc k) (b ∷ bs) = shown_rest form k bs
 
-unfoldable pub said : Form → List ℕ → List ℕ
-said form s = said_after form 0 s
+unfoldable pub shown_text : Form → List ℕ → List ℕ
+shown_text form s = shown_rest form 0 s
 
 -- ---- bytes that are shown as they are
 
@@ -92,5 +94,4 @@ is_bare b = nat_le 32 b && nat_lt b 127 && not ((b == 34) || (b == 92))
 
 -- how many of these stand at the front
 unfoldable pub bare_len : List ℕ → ℕ
-bare_len [] = 0
-bare_len (b ∷ bs) = if is_bare b then suc (bare_len bs) else 0
+bare_len s = prefix_len is_bare s

@@ -1,7 +1,8 @@
 -- What is printed of an address and of its frames, as text.
 -- Assumes nothing.
-use Rattle.std.specs.Prelude.{ℕ, Bool, true, false, ◌&&◌, not, List, [], ◌∷◌, ◌==◌, if◌then◌else◌, codes, decimal, Option, Some, None}
-use Rattle.std.specs.List.{flat_map}
+use Rattle.std.specs.Prelude.{ℕ, Bool, true, false, ◌-◌, ◌&&◌, not, List, [], ◌∷◌, length, drop, ◌==◌, if◌then◌else◌}
+use Rattle.std.specs.Prelude.{codes, decimal, Option, Some, None}
+use Rattle.std.specs.List.{flat_map, suffix_len}
 use Rattle.gsym_types.specs.declared.Position.{Position}
 use Rattle.gsym_types.specs.declared.Refusal.{Refusal}
 use Rattle.gsym_types.specs.declared.Refusal.TheVariants as refused
@@ -13,7 +14,7 @@ use Rattle.gsym_printed.specs.declared.view.Form.{Form}
 use Rattle.gsym_printed.specs.declared.view.Form.TheVariants.{Lines, Pretty, Json}
 use Rattle.gsym_printed.specs.declared.view.View.{View}
 use Rattle.gsym_printed.specs.Page.{◌&◌, wide_hex}
-use Rattle.gsym_printed.specs.Pieces.{said}
+use Rattle.gsym_printed.specs.Pieces.{shown_text}
 
 -- ---- words between the parts, by the form
 
@@ -38,27 +39,22 @@ before_outer form = if is_pretty form then codes " (inlined by) " else []
 
 -- ---- a frame
 
--- the bytes behind a slash at the front; where there is none, what was best so far
-abbrev pub later_part : List ℕ → List ℕ → List ℕ
-later_part best [] = best
-later_part best (b ∷ bs) = if b == 47 then bs else best
+-- how many bytes at the end are no slash
+unfoldable pub base_len : List ℕ → ℕ
+base_len s = suffix_len (λ b. not (b == 47)) s
 
--- the bytes behind the last slash of the rest; where it has none, what was best so far
-unfoldable pub last_part : List ℕ → List ℕ → List ℕ
-last_part best [] = best
-last_part best (b ∷ bs) = last_part (later_part best (b ∷ bs)) bs
-
+-- the bytes behind the last slash, all where there is none
 abbrev pub base_name : List ℕ → List ℕ
-base_name s = last_part s s
+base_name s = drop (length s - base_len s) s
 
 -- a text of the file
 abbrev pub text_of : Form → List ℕ → Text → List ℕ
-text_of form file t = said form (part_of file t.place t.len)
+text_of form file t = shown_text form (part_of file t.place t.len)
 
 -- the directory, a slash and the file, or the file's last part alone
 unfoldable pub path_text : View → List ℕ → Position → List ℕ
 path_text view file p =
-    if view.base_names then said view.form (base_name (part_of file p.file.place p.file.len))
+    if view.base_names then shown_text view.form (base_name (part_of file p.file.place p.file.len))
     else text_of view.form file p.dir & (if p.dir.len == 0 then [] else codes "/") & text_of view.form file p.file
 
 -- one line a frame says `?` of an unknown line
@@ -127,7 +123,7 @@ address_text view n = if view.addresses then wide_hex n & after_address view.for
 -- ---- a word that is no address
 
 unfoldable pub no_address_line : View → List ℕ → List ℕ
-no_address_line view word = codes "?? '" & said view.form word & codes "' is no address\n"
+no_address_line view word = codes "?? '" & shown_text view.form word & codes "' is no address\n"
 
 abbrev pub no_frames_text : View → List ℕ → List ℕ
 no_frames_text view word = if view.refusals then for_each_line view (no_address_line view word) else unknown_text view

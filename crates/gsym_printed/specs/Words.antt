@@ -1,6 +1,8 @@
 -- The words of an input, and the address that a word is.
 -- Assumes nothing.
-use Rattle.std.specs.Prelude.{ℕ, suc, ◌+◌, ◌-◌, ◌*◌, ◌^◌, Bool, ◌&&◌, ◌||◌, List, [], ◌∷◌, ◌++◌, length, drop, nat_le, nat_lt, ◌==◌, slice_index, if◌then◌else◌, Option, Some, None, option_and_then}
+use Rattle.std.specs.Prelude.{ℕ, ◌+◌, ◌-◌, ◌*◌, ◌^◌, Bool, not, ◌&&◌, ◌||◌, List, [], ◌∷◌, ◌++◌, length, drop, nat_le}
+use Rattle.std.specs.Prelude.{nat_lt, ◌==◌, slice_index, if◌then◌else◌, Option, Some, None, option_and_then}
+use Rattle.std.specs.List.{prefix_len}
 
 -- ---- words
 
@@ -22,15 +24,13 @@ words_onto word (b ∷ bs) = if parts b then ended word ++ words_onto [] bs else
 unfoldable pub words : List ℕ → List (List ℕ)
 words input = words_onto [] input
 
--- the bytes behind those that part, and how many these are
+-- how many bytes at the front part words
 unfoldable pub blank_count : List ℕ → ℕ
-blank_count [] = 0
-blank_count (b ∷ bs) = if parts b then suc (blank_count bs) else 0
+blank_count s = prefix_len parts s
 
 -- how many bytes the word at the front has
 unfoldable pub word_len : List ℕ → ℕ
-word_len [] = 0
-word_len (b ∷ bs) = if parts b then 0 else suc (word_len bs)
+word_len s = prefix_len (λ b. not (parts b)) s
 
 -- ---- addresses
 
@@ -44,8 +44,8 @@ digits_of w =
 abbrev pub digit_of : ℕ → Option ℕ
 digit_of b =
     if nat_le 48 b && nat_le b 57 then Some (b - 48)
-    else if nat_le 65 b && nat_le b 70 then Some (b - 55)
-    else if nat_le 97 b && nat_le b 102 then Some (b - 87)
+    else if nat_le 65 b && nat_le b 70 then Some (b - 65 + 10)
+    else if nat_le 97 b && nat_le b 102 then Some (b - 97 + 10)
     else None
 
 -- the number of these digits behind a number; none where one is no digit, or it takes more than 64 bits

@@ -3,10 +3,14 @@ ghost use Rattle.std.specs.Prelude.{◌≡◌, ◌≤◌, length, Option};
 ghost use Rattle.std.specs.List.{flat_map};
 ghost use Rattle.gsym.specs.CallOrder.{calls_left};
 ghost use Rattle.gsym_printed.specs.Page.{put};
-ghost use Rattle.gsym_printed.specs.Printed.{is_pretty, is_json, after_address, after_name, before_outer, later_part, last_part, base_name, text_of, path_text, line_text, no_place, place_text, frame_text, outer_text, calls_text, name_of, unknown_text, refusal_line, refused_text, address_text, no_address_line, no_frames_text, no_address_text};
+ghost use Rattle.gsym_printed.specs.Printed.{is_pretty, is_json, after_address, after_name, before_outer};
+ghost use Rattle.gsym_printed.specs.Printed.{base_len, base_name, text_of, path_text, line_text, no_place, place_text};
+ghost use Rattle.gsym_printed.specs.Printed.{frame_text, outer_text, calls_text, name_of, unknown_text, refusal_line};
+ghost use Rattle.gsym_printed.specs.Printed.{refused_text, address_text, no_address_line, no_frames_text};
+ghost use Rattle.gsym_printed.specs.Printed.{no_address_text};
 
 use crate::page::{put_decimal, put_str, put_wide_hex};
-use crate::pieces::put_said;
+use crate::pieces::put_shown;
 use crate::view::{Form, View};
 use gsym::{Call, CallChain, LineNumber, Position, Refusal, Text};
 
@@ -52,35 +56,28 @@ fn no_place(form: Form) -> &'static str
 
 // ---- a frame
 
-// The bytes behind a slash at the front, or what was best so far.
-fn later_part<'a>(best: &'a [u8], rest: &'a [u8]) -> &'a [u8]
-    ensures { result.now ≡ later_part best.now rest.now }
+// How many bytes at the end are no slash.
+#[tactic(auto, unfolding(crate::specs::Printed::base_len))]
+fn base_len(bytes: &[u8]) -> usize
+    ensures within { result ≤ length bytes.now }
+    ensures value { result ≡ base_len bytes.now }
 {
-    match rest.split_first() {
-        Some((first, after)) => { if *first == 47 { after } else { best } }
-        None => best,
-    }
+    bytes.iter().rev().take_while(|&&byte| byte != b'/').count()
 }
 
 // The bytes behind the last slash, all where there is none.
-#[tactic(auto, unfolding(crate::specs::Printed::last_part))]
 fn base_name(bytes: &[u8]) -> &[u8]
     ensures { result.now ≡ base_name bytes.now }
 {
-    let mut best = bytes;
-    let mut rest = bytes;
-    while let Some((_, after)) = rest.split_first() {
-        best = later_part(best, rest);
-        rest = after;
-    }
-    best
+    let (_, name) = bytes.split_at(bytes.len() - base_len(bytes));
+    name
 }
 
 // A text of the file.
 fn put_text(room: &mut [u8], at: usize, form: Form, file: &[u8], text: Text) -> usize
     ensures { (room.new, result) ≡ put (room.old, at) (text_of form file.now text) }
 {
-    put_said(room, at, form, gsym::text(file, text))
+    put_shown(room, at, form, gsym::text(file, text))
 }
 
 // The directory, a slash and the file.
@@ -89,7 +86,7 @@ fn put_path(room: &mut [u8], at: usize, view: View, file: &[u8], position: Posit
     ensures { (room.new, result) ≡ put (room.old, at) (path_text view file.now position) }
 {
     if view.base_names {
-        return put_said(
+        return put_shown(
             room,
             at,
             view.form,
@@ -274,7 +271,7 @@ fn put_no_address_line(room: &mut [u8], at: usize, view: View, word: &[u8]) -> u
     ensures { (room.new, result) ≡ put (room.old, at) (no_address_line view word.now) }
 {
     let at = put_str(room, at, "?? '");
-    let at = put_said(room, at, view.form, word);
+    let at = put_shown(room, at, view.form, word);
     put_str(room, at, "' is no address\n")
 }
 

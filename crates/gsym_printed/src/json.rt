@@ -3,11 +3,13 @@ ghost use Rattle.std.specs.Prelude.{◌≡◌, Option};
 ghost use Rattle.std.specs.List.{flat_map};
 ghost use Rattle.gsym.specs.CallOrder.{calls_left};
 ghost use Rattle.gsym_printed.specs.Page.{put};
-ghost use Rattle.gsym_printed.specs.Json.{between, quoted, quoted_text, json_paths, json_position, json_frame, json_outer, json_calls, json_start, json_symbol, json_found, json_refused, json_no_address};
+ghost use Rattle.gsym_printed.specs.Json.{between, quoted, quoted_text, json_paths, json_position, json_frame};
+ghost use Rattle.gsym_printed.specs.Json.{json_outer, json_calls, json_start, json_symbol, json_found, json_refused};
+ghost use Rattle.gsym_printed.specs.Json.{json_no_address};
 
 use crate::frames::refusal_name;
 use crate::page::{put_decimal, put_hex, put_str};
-use crate::pieces::put_said;
+use crate::pieces::put_shown;
 use crate::view::Form;
 use gsym::{Answer, Call, CallChain, Position, Refusal, Text};
 
@@ -67,7 +69,7 @@ fn put_quoted(room: &mut [u8], at: usize, bytes: &[u8]) -> usize
     ensures { (room.new, result) ≡ put (room.old, at) (quoted bytes.now) }
 {
     let at = put_str(room, at, "\"");
-    let at = put_said(room, at, Form::Json, bytes);
+    let at = put_shown(room, at, Form::Json, bytes);
     put_str(room, at, "\"")
 }
 

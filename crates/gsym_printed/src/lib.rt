@@ -11,7 +11,7 @@ mod view;
 mod words;
 
 pub use frames::refusal_name;
-pub use laws::plain_texts;
-pub use printing::{Outcome, Printed, answer, answers, refusal_text, shown};
+pub use laws::{plain_texts, printed_examples};
+pub use printing::{Outcome, Printed, answer, answers, refusal_text, shown_text};
 pub use view::{Form, View};
 pub use words::{address_of, next_word};

@@ -50,10 +50,10 @@ pub(crate) fn put_decimal(room: &mut [u8], at: usize, n: u64) -> usize
     ensures { (room.new, result) ≡ put (room.old, at) (decimal n) }
 {
     if n < 10 {
-        return put_byte(room, at, 48 + n as u8);
+        return put_byte(room, at, b'0' + n as u8);
     }
     let at = put_decimal(room, at, n / 10);
-    put_byte(room, at, 48 + (n % 10) as u8)
+    put_byte(room, at, b'0' + (n % 10) as u8)
 }
 
 // A digit below 16.
@@ -61,7 +61,11 @@ fn digit_byte(digit: u8) -> u8
     requires { digit < 16 }
     ensures { result ≡ digit_byte digit }
 {
-    if digit < 10 { 48 + digit } else { 87 + digit }
+    if digit < 10 {
+        b'0' + digit
+    } else {
+        b'a' - 10 + digit
+    }
 }
 
 // The last digits of a number, so many.

@@ -1,7 +1,8 @@
 //! Texts of the file and words of the user, piece by piece, so that none steers a terminal.
 ghost use Rattle.std.specs.Prelude.{◌≡◌, ◌≤◌, ◌<◌, ◌∷◌, [], ◌++◌, length, slice_index};
 ghost use Rattle.gsym_printed.specs.Page.{put};
-ghost use Rattle.gsym_printed.specs.Pieces.{char_len, piece_len, is_control, is_c1, is_turn, is_mark, mark_number, escaped_byte, escaped_piece, piece_text, said, is_bare, bare_len};
+ghost use Rattle.gsym_printed.specs.Pieces.{char_len, piece_len, is_control, is_c1, is_turn, is_mark, mark_number};
+ghost use Rattle.gsym_printed.specs.Pieces.{escaped_byte, escaped_piece, piece_text, shown_text, is_bare, bare_len};
 
 use crate::page::{put_byte, put_bytes, put_last_digits, put_str};
 use crate::view::Form;
@@ -101,8 +102,8 @@ fn put_escaped_byte(room: &mut [u8], at: usize, byte: u8) -> usize
         let at = put_str(room, at, "\\u");
         return put_last_digits(room, at, 4, byte as u64);
     }
-    if byte == 34 || byte == 92 {
-        let at = put_byte(room, at, 92);
+    if byte == b'"' || byte == b'\\' {
+        let at = put_byte(room, at, b'\\');
         return put_byte(room, at, byte);
     }
     put_byte(room, at, byte)
@@ -146,30 +147,24 @@ fn put_piece(room: &mut [u8], at: usize, form: Form, piece: &[u8]) -> usize
 fn is_bare(byte: u8) -> bool
     ensures { result ≡ is_bare byte }
 {
-    byte >= 32 && byte < 127 && !(byte == 34 || byte == 92)
+    byte >= b' ' && byte < 127 && !(byte == b'"' || byte == b'\\')
 }
 
 // How many bytes at the front are shown as they are.
-#[tactic(auto, using(crate::proofs::Bare::bare_more, crate::proofs::Bare::bare_stop, crate::proofs::Bare::bare_end))]
+#[tactic(auto, unfolding(crate::specs::Pieces::bare_len))]
 fn bare_len(bytes: &[u8]) -> usize
     ensures within { result ≤ length bytes.now }
     ensures value { result ≡ bare_len bytes.now }
 {
-    let mut count = 0;
-    while count < bytes.len() {
-        if !is_bare(bytes[count]) {
-            return count;
-        }
-        count += 1;
-    }
-    count
+    bytes.iter().take_while(|&&byte| is_bare(byte)).count()
 }
 
 // The front of a text, and the bytes after it: those that are shown as they are, at once, or a single piece.
-#[tactic(auto, using(crate::proofs::Saying::said_turn, crate::proofs::Bare::said_bare))]
+#[tactic(auto, using(crate::proofs::Showing::shown_turn, crate::proofs::Bare::shown_bare))]
 fn put_front<'a>(room: &mut [u8], at: usize, form: Form, bytes: &'a [u8]) -> (usize, &'a [u8])
     requires { 0 < length bytes.now }
-    ensures said { put (room.new, result.0) (said form result.1.now) ≡ put (room.old, at) (said form bytes.now) }
+    ensures text { put (room.new, result.0) (shown_text form result.1.now)
+        ≡ put (room.old, at) (shown_text form bytes.now) }
     ensures shorter { length result.1.now < length bytes.now }
 {
     let bare = bare_len(bytes);
@@ -182,9 +177,9 @@ fn put_front<'a>(room: &mut [u8], at: usize, form: Form, bytes: &'a [u8]) -> (us
 }
 
 // All of a text.
-#[tactic(auto, using(crate::proofs::Saying::said_end))]
-pub(crate) fn put_said(room: &mut [u8], at: usize, form: Form, bytes: &[u8]) -> usize
-    ensures { (room.new, result) ≡ put (room.old, at) (said form bytes.now) }
+#[tactic(auto, using(crate::proofs::Showing::shown_end))]
+pub(crate) fn put_shown(room: &mut [u8], at: usize, form: Form, bytes: &[u8]) -> usize
+    ensures { (room.new, result) ≡ put (room.old, at) (shown_text form bytes.now) }
 {
     let mut at = at;
     let mut rest = bytes;

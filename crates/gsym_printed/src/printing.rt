@@ -4,14 +4,15 @@ ghost use Rattle.gsym_types.specs.declared.Refusal.{Refusal};
 ghost use Rattle.gsym_resolver.specs.Lookup.{looked_up};
 ghost use Rattle.gsym.specs.Lookups.{records_in};
 ghost use Rattle.gsym_printed.specs.Page.{put};
-ghost use Rattle.gsym_printed.specs.Pieces.{said};
+ghost use Rattle.gsym_printed.specs.Pieces.{shown_text};
 ghost use Rattle.gsym_printed.specs.Printed.{name_of};
-ghost use Rattle.gsym_printed.specs.Answers.{options_of, asked_for, lookup_for, answer_by, no_answer, answer_text, answers_text, outcome_by, outcome_of, IsWritten};
+ghost use Rattle.gsym_printed.specs.Answers.{options_of, asked_for, lookup_for, answer_by, no_answer, answer_text};
+ghost use Rattle.gsym_printed.specs.Answers.{answers_text, outcome_by, outcome_of, IsWritten};
 
 use crate::frames::{is_json, put_address, put_calls, put_no_address, put_refused, refusal_name};
 use crate::json::{put_found, put_json_no_address, put_json_refused};
 use crate::page::put_str;
-use crate::pieces::put_said;
+use crate::pieces::put_shown;
 use crate::view::{Form, View};
 use crate::words::{address_of, next_word};
 use gsym::{Address, Answer, Frame, MAX_FRAMES, Options, Refusal};
@@ -185,10 +186,10 @@ pub fn answers(view: View, file: &[u8], input: &[u8], room: &mut [u8]) -> usize
 
 /// Any bytes as they may be shown on a terminal, and how many bytes that are; written as `answer` writes (RULES, "What
 /// the tools print").
-pub fn shown(bytes: &[u8], room: &mut [u8]) -> usize
-    ensures { IsWritten room.old room.new result (said Form.Lines bytes.now) }
+pub fn shown_text(bytes: &[u8], room: &mut [u8]) -> usize
+    ensures { IsWritten room.old room.new result (shown_text Form.Lines bytes.now) }
 {
-    put_said(room, 0, Form::Lines, bytes)
+    put_shown(room, 0, Form::Lines, bytes)
 }
 
 /// The name of a refusal, and how many bytes it has; written as `answer` writes (RULES, "Refusal numbers").

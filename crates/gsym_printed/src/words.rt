@@ -1,6 +1,7 @@
 //! The words of an input, and the address that a word is.
 ghost use Rattle.std.specs.Prelude.{◌≡◌, ◌≢◌, ◌≤◌, ◌<◌, ◌+◌, ◌↔◌, ◌∷◌, [], length, take, drop, IfSome, IfNone};
-ghost use Rattle.gsym_printed.specs.Words.{parts, words, blank_count, word_len, digits_of, digit_of, hex_onto, address_of};
+ghost use Rattle.gsym_printed.specs.Words.{parts, words, blank_count, word_len, digits_of, digit_of, hex_onto};
+ghost use Rattle.gsym_printed.specs.Words.{address_of};
 
 use gsym_types::Text;
 
@@ -9,39 +10,25 @@ use gsym_types::Text;
 fn parts(byte: u8) -> bool
     ensures { result ≡ parts byte }
 {
-    byte == 32 || byte == 9 || byte == 13 || byte == 10
+    matches!(byte, b' ' | b'\t' | b'\r' | b'\n')
 }
 
 // How many bytes at the front part words.
-#[tactic(auto, using(crate::proofs::Splitting::blank_more, crate::proofs::Splitting::blank_stop, crate::proofs::Splitting::blank_end))]
+#[tactic(auto, unfolding(crate::specs::Words::blank_count))]
 fn blank_count(bytes: &[u8]) -> usize
     ensures within { result ≤ length bytes.now }
     ensures value { result ≡ blank_count bytes.now }
 {
-    let mut count = 0;
-    while count < bytes.len() {
-        if !parts(bytes[count]) {
-            return count;
-        }
-        count += 1;
-    }
-    count
+    bytes.iter().take_while(|&&byte| parts(byte)).count()
 }
 
 // How many bytes the word at the front has.
-#[tactic(auto, using(crate::proofs::Splitting::word_more, crate::proofs::Splitting::word_stop, crate::proofs::Splitting::word_end))]
+#[tactic(auto, unfolding(crate::specs::Words::word_len))]
 fn word_len(bytes: &[u8]) -> usize
     ensures within { result ≤ length bytes.now }
     ensures value { result ≡ word_len bytes.now }
 {
-    let mut count = 0;
-    while count < bytes.len() {
-        if parts(bytes[count]) {
-            return count;
-        }
-        count += 1;
-    }
-    count
+    bytes.iter().take_while(|&&byte| !parts(byte)).count()
 }
 
 /// The first word of an input, as its place and length; `None` where there is none. The words that follow are those of
@@ -67,9 +54,9 @@ fn digit(byte: u8) -> Option<u64>
     ensures value { result ≡ digit_of byte }
 {
     match byte {
-        48..=57 => Some((byte - 48) as u64),
-        65..=70 => Some((byte - 55) as u64),
-        97..=102 => Some((byte - 87) as u64),
+        b'0'..=b'9' => Some(u64::from(byte - b'0')),
+        b'A'..=b'F' => Some(u64::from(byte - b'A') + 10),
+        b'a'..=b'f' => Some(u64::from(byte - b'a') + 10),
         _ => None,
     }
 }
@@ -78,7 +65,7 @@ fn digit(byte: u8) -> Option<u64>
 fn digits(word: &[u8]) -> &[u8]
     ensures { result.now ≡ digits_of word.now }
 {
-    if word.len() >= 2 && word[0] == 48 && (word[1] == 120 || word[1] == 88) {
+    if word.len() >= 2 && word[0] == b'0' && (word[1] == b'x' || word[1] == b'X') {
         &word[2..]
     } else {
         word

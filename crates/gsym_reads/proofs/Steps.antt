@@ -1,5 +1,5 @@
--- Laws of rules that are `do` blocks: what a rule that reads has read on its way, what holds of every way through, and what
--- follows a rule.
+-- Laws of rules that are `do` blocks: what a rule that reads has read on its way, what holds of every way through, and
+-- what follows a rule.
 -- Assumes nothing.
 use Rattle.std.proofs.Common.{◌≡◌, Bool, true, false, Result, Ok, Err, Option, Some, None, refl, if◌then◌else◌}
 use Rattle.gsym_reads.specs.Steps.{◌>>=◌, ◌>>◌, need, given}
@@ -12,7 +12,8 @@ pub bind_ok :
 bind_ok (Ok x) f y e = (x, refl, e)
 bind_ok (Err d) f y e = absurd cc
 
-pub need_ok : {E B : Type 0} (b : Bool) (d : E) (r : Result B E) (y : B) → (need b d >> r) ≡ Ok y → (b ≡ true) × (r ≡ Ok y)
+pub need_ok :
+    {E B : Type 0} (b : Bool) (d : E) (r : Result B E) (y : B) → (need b d >> r) ≡ Ok y → (b ≡ true) × (r ≡ Ok y)
 need_ok true d r y e = (refl, e)
 need_ok false d r y e = absurd cc
 
@@ -26,7 +27,8 @@ ok_is x y e = cc
 -- ---- what holds of every error, and of the rest at each value of a step, holds of the rule
 
 pub through :
-    {E A B : Type 0} (P : Result B E → Type 0) (r : Result A E) (f : A → Result B E) → ((e : E) → r ≡ Err e → P (Err e)) →
+    {E A B : Type 0} (P : Result B E → Type 0) (r : Result A E) (f : A → Result B E) →
+    ((e : E) → r ≡ Err e → P (Err e)) →
     ((x : A) → r ≡ Ok x → P (f x)) → P (r >>= f)
 through P (Ok x) f p q = q x refl
 through P (Err e) f p q = p e refl
@@ -41,7 +43,8 @@ through_need P false d r p q = p
 
 module _ {B E : Type 0} (P : Result B E → Type 0) where
   pub by_given :
-      {A : Type 0} (d : E) (o : Option A) (f : A → Result B E) → (o ≡ None → P (Err d)) → ((x : A) → o ≡ Some x → P (f x)) →
+      {A : Type 0} (d : E) (o : Option A) (f : A → Result B E) → (o ≡ None → P (Err d)) →
+      ((x : A) → o ≡ Some x → P (f x)) →
       P (given d o >>= f)
   by_given d (Some x) f n s = s x refl
   by_given d None f n s = n refl
@@ -64,15 +67,20 @@ module _ {B E : Type 0} (P : Result B E → Type 0) where
 -- ---- what follows a rule follows its last step
 
 pub bind_bind :
-    {A B C E : Type 0} (r : Result A E) (f : A → Result B E) (g : B → Result C E) → ((r >>= f) >>= g) ≡ (r >>= λ x. f x >>= g)
+    {A B C E : Type 0} (r : Result A E) (f : A → Result B E) (g : B → Result C E) →
+    ((r >>= f) >>= g) ≡ (r >>= λ x. f x >>= g)
 bind_bind (Ok x) f g = refl
 bind_bind (Err e) f g = refl
 
-pub need_bind : {B C E : Type 0} (b : Bool) (d : E) (r : Result B E) (g : B → Result C E) → ((need b d >> r) >>= g) ≡ (need b d >> (r >>= g))
+pub need_bind :
+    {B C E : Type 0} (b : Bool) (d : E) (r : Result B E) (g : B → Result C E) →
+    ((need b d >> r) >>= g) ≡ (need b d >> (r >>= g))
 need_bind true d r g = refl
 need_bind false d r g = refl
 
-pub if_bind : {B C E : Type 0} (b : Bool) (r s : Result B E) (g : B → Result C E) → ((if b then r else s) >>= g) ≡ (if b then r >>= g else s >>= g)
+pub if_bind :
+    {B C E : Type 0} (b : Bool) (r s : Result B E) (g : B → Result C E) →
+    ((if b then r else s) >>= g) ≡ (if b then r >>= g else s >>= g)
 if_bind true r s g = refl
 if_bind false r s g = refl
 
@@ -83,7 +91,8 @@ bind_same (Ok x) f g h = h x refl
 bind_same (Err e) f g h = refl
 
 pub given_same :
-    {A B E : Type 0} (d : E) (o : Option A) (f g : A → Result B E) → ((x : A) → f x ≡ g x) → (given d o >>= f) ≡ (given d o >>= g)
+    {A B E : Type 0} (d : E) (o : Option A) (f g : A → Result B E) → ((x : A) → f x ≡ g x) →
+    (given d o >>= f) ≡ (given d o >>= g)
 given_same d (Some x) f g h = h x
 given_same d None f g h = refl
 

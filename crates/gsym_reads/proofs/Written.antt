@@ -1,6 +1,7 @@
 -- A number that was written reads as itself, between any bytes, at each width.
 -- Assumes nothing.
-use Rattle.std.proofs.Common.{ℕ, ◌%◌, ◌^◌, ◌<◌, ◌≤◌, List, ◌++◌, ◌≡◌, ap, length, arith, le-ltb, Some, w8, w16, w32, w64}
+use Rattle.std.proofs.Common.{ℕ, ◌%◌, ◌^◌, ◌<◌, ◌≤◌, List, ◌++◌, ◌≡◌, ap, length, arith, le-ltb, Some, w8, w16, w32}
+use Rattle.std.proofs.Common.{w64}
 use Rattle.std.proofs.lemmas.Nat.{from_le_bytes-to_le_bytes_2, from_le_bytes-to_le_bytes_4, from_le_bytes-to_le_bytes_8}
 use Rattle.std.specs.Int.{to_le_bytes}
 use lib.Seq.{drop-append_seam}

@@ -1,7 +1,8 @@
 -- Numbers at the front of bytes: a value, and the bytes after it (RULES, "Numbers"). The least significant byte comes
 -- first. Where fewer bytes are there than the number has, there is none.
 -- Assumes nothing.
-use Rattle.std.specs.Prelude.{◌≡◌, ◌≤◌, ℕ, List, [], ◌∷◌, Option, Some, None, Result, Ok, Err, length, take, drop, nat_lt, if◌then◌else◌}
+use Rattle.std.specs.Prelude.{◌≡◌, ◌≤◌, ℕ, List, [], ◌∷◌, Option, Some, None, Result, Ok, Err, length, take, drop}
+use Rattle.std.specs.Prelude.{nat_lt, if◌then◌else◌}
 use Rattle.std.specs.Int.{w16, w32, w64, from_le_bytes}
 
 unfoldable pub byte_front : List ℕ → Option (ℕ × List ℕ)

@@ -1,5 +1,5 @@
--- A rule that reads and judges several things in a row is a `do` block: its lines stand in the order in which things are
--- read and judged, and the first that fails decides.
+-- A rule that reads and judges several things in a row is a `do` block: its lines stand in the order in which things
+-- are read and judged, and the first that fails decides.
 --
 --   x ← step          goes on with what the step gives, or ends with the step's error
 --   need test e       goes on where the test holds, or ends with the error e

@@ -1,8 +1,8 @@
-//! Numbers of one, two, four and eight bytes at a place of a slice, which are little-endian (RULES, "Numbers"). A place
-//! may be any number: past the end no byte is left. Nothing past the slice is read.
+//! Numbers of one, two, four and eight bytes at a place of a slice, and of four at its front, which are little-endian
+//! (RULES, "Numbers"). A place may be any number: past the end no byte is left. Nothing past the slice is read.
 #![tactic(auto)]
 
-ghost use Rattle.std.specs.Prelude.{◌≡◌, ◌+◌, ◌-◌, ◌<◌, ◌↔◌, length, drop, IsNone};
+ghost use Rattle.std.specs.Prelude.{◌≡◌, ◌+◌, ◌-◌, ◌<◌, ◌↔◌, length, drop, option_map, IsNone};
 ghost use Rattle.gsym_reads.specs.Fronts.{byte_front, u16_front, u32_front, u64_front, ReadsUpTo};
 ghost use Rattle.gsym_reads.specs.Answers.{u8_at, u16_at, u32_at, u64_at};
 
@@ -75,4 +75,15 @@ pub fn u64_at(s: &[u8], at: usize) -> Option<u64>
         s[at + 6],
         s[at + 7],
     ]))
+}
+
+/// The number of four bytes at the front and the bytes after it, or `None` where fewer are there (RULES, "Numbers").
+#[inline(always)]
+#[tactic(auto, unfolding(crate::specs::Fronts::u32_front))]
+pub fn u32_front(s: &[u8]) -> Option<(u32, &[u8])>
+    ensures exact { option_map (λ p. (p.0, p.1.now)) result ≡ u32_front s.now }
+    ensures short { IsNone result ↔ (length s.now < 4) }
+{
+    let (front, rest) = s.split_first_chunk::<4>()?;
+    Some((u32::from_le_bytes(*front), rest))
 }

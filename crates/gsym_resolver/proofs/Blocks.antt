@@ -13,7 +13,8 @@ use Rattle.gsym_inline.proofs.Listing.{block_room, block-lists, refused-number}
 use Rattle.gsym_inline.proofs.FirstFault.{first-fault}
 
 module _ (symbol addr room : ℕ) (bytes : List ℕ) where
-  pub block_listed : (fs : List InlineFrame) → (block_of symbol addr room bytes ≡ Ok fs) ↔ ListsFrames symbol addr room bytes fs
+  pub block_listed :
+      (fs : List InlineFrame) → (block_of symbol addr room bytes ≡ Ok fs) ↔ ListsFrames symbol addr room bytes fs
   block_listed fs = block-lists symbol addr room bytes fs
 
   pub block_refused :
@@ -25,5 +26,6 @@ module _ (symbol addr room : ℕ) (bytes : List ℕ) where
   listed_room fs L = block_room symbol addr room bytes fs ((block_listed fs).1 L)
 
   -- a first fault is one of 10 to 14
-  pub fault_number : (r : Refusal) → FirstFault room (steps_of symbol addr bytes) r → (10 ≤ number_of r) × (number_of r ≤ 14)
+  pub fault_number :
+      (r : Refusal) → FirstFault room (steps_of symbol addr bytes) r → (10 ≤ number_of r) × (number_of r ≤ 14)
   fault_number r F = refused-number symbol addr room bytes r ((block_refused r).1 F)

@@ -1,7 +1,8 @@
 -- The laws of a lookup, said of a call: whatever it returned, and the records in its list, where both are those of the
 -- definition.
 -- Assumes nothing.
-use Rattle.std.proofs.Common.{◌≡◌, ◌↔◌, ◌≤◌, ◌<◌, ◌+◌, ◌⊎◌, Ok, Err, Result, IfOk, IfErr, ℕ, true, false, List, length, sym}
+use Rattle.std.proofs.Common.{◌≡◌, ◌↔◌, ◌≤◌, ◌<◌, ◌+◌, ◌⊎◌, Ok, Err, Result, IfOk, IfErr, ℕ, true, false, List, length}
+use Rattle.std.proofs.Common.{sym}
 use Rattle.std.specs.Result.{IsErrOf}
 use Rattle.gsym_types.specs.declared.Address.{Address}
 use Rattle.gsym_types.specs.declared.Answer.{Answer}
@@ -35,12 +36,14 @@ module _ (file : List ℕ) (addr : Address) (o : Options) (room : ℕ) where
   of_refusal P h (Ok a) records e = tt
   of_refusal P h (Err r) records e = h r (sym e)
 
-  module _ (result : Result Answer Refusal) (records : List Frame) (e : looked_up result records ≡ lookup_of file addr o room) where
+  module _ (result : Result Answer Refusal) (records : List Frame)
+      (e : looked_up result records ≡ lookup_of file addr o room) where
     -- refused with r exactly where r's condition is the first met
     pub call_refused : (r : Refusal) → IsErrOf result r ↔ Met file addr o room r
     call_refused r = go result e
       where
-        go : (x : Result Answer Refusal) → looked_up x records ≡ lookup_of file addr o room → IsErrOf x r ↔ Met file addr o room r
+        go : (x : Result Answer Refusal) → looked_up x records ≡ lookup_of file addr o room →
+            IsErrOf x r ↔ Met file addr o room r
         go (Ok a) e = (λ z. absurd cc, λ m. let z = (lookup_refused file addr o room r).1 m in absurd cc)
         go (Err s) e = (
           λ z. (lookup_refused file addr o room r).0 (let q : s ≡ r = cc in cc),
@@ -53,7 +56,8 @@ module _ (file : List ℕ) (addr : Address) (o : Options) (room : ℕ) where
 
     -- what is found covers the address, and is not above it
     pub call_covers : IfOk result (λ a. covered_by addr a.addr a.size ≡ true)
-    call_covers = of_answer (λ l. covered_by addr l.answer.addr l.answer.size ≡ true) (lookup_covered file addr o room) result records e
+    call_covers = of_answer (λ l. covered_by addr l.answer.addr l.answer.size ≡ true)
+        (lookup_covered file addr o room) result records e
 
     pub call_below : IfOk result (λ a. a.addr.0 ≤ addr.0)
     call_below = of_answer (λ l. l.answer.addr.0 ≤ addr.0) (lookup_below file addr o room) result records e
@@ -63,12 +67,15 @@ module _ (file : List ℕ) (addr : Address) (o : Options) (room : ℕ) where
     call_count = of_answer (λ l. l.answer.count ≡ length l.frames) (count_is file addr o room) result records e
 
     pub call_room : IfOk result (λ a. (length records ≡ 0) ⊎ (length records + 1 ≤ room))
-    call_room = of_answer (λ l. (length l.frames ≡ 0) ⊎ (length l.frames + 1 ≤ room)) (records_room file addr o room) result records e
+    call_room = of_answer (λ l. (length l.frames ≡ 0) ⊎ (length l.frames + 1 ≤ room))
+        (records_room file addr o room) result records e
 
     -- where there are records, they are those of the first inline block that lists anything
-    pub call_listed : IfOk result (λ a. 0 < length records → Listed file addr o room (record { answer = a; frames = records }))
+    pub call_listed :
+        IfOk result (λ a. 0 < length records → Listed file addr o room (record { answer = a; frames = records }))
     call_listed =
-        of_answer (λ l. 0 < length l.frames → Listed file addr o room l) (lookup_listed file addr o room) result records e
+        of_answer (λ l. 0 < length l.frames → Listed file addr o room l)
+        (lookup_listed file addr o room) result records e
 
     -- from 10 on a refusal is the first fault of one of the entry's blocks, the first that doesn't list none
     pub call_blocks : IfErr result (λ r. 10 ≤ number_of r → RefusedByBlock file addr o room r)

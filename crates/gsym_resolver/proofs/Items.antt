@@ -1,13 +1,13 @@
 -- What reading the items of a list comes to, in RULES' words: the row and the frames that they give, or the first item
 -- that refuses.
 -- Assumes nothing.
-use Rattle.std.proofs.Common.{◌≡◌, ◌↔◌, Some, None, Ok, Err, Option, Result, IfErr, ℕ, Bool, true, false, List, [], ◌∷◌, ◌++◌, ⊎_elim, arith, refl, sym, ap, subst, ◌∙◌, eqb, eqb-true, eq-eqb}
+use Rattle.std.proofs.Common.{◌≡◌, ◌↔◌, Some, None, Ok, Err, Option, Result, ℕ, Bool, true, false, List, [], ◌∷◌}
+use Rattle.std.proofs.Common.{◌++◌, ⊎_elim, arith, refl, sym, ap, subst, ◌∙◌, eqb, eqb-true, eq-eqb}
 use Rattle.std.proofs.lemmas.Bool.{eqb-false}
 use Rattle.std.proofs.lemmas.List.{append-nil}
 use Rattle.std.proofs.lemmas.List.Elements.{All-nil, All-cons, All-head, All-tail}
 use Rattle.gsym_reads.specs.Steps.{◌>>=◌, told}
 use Rattle.gsym_reads.proofs.Steps.{through}
-use Rattle.gsym_leb128.specs.Answers.{signed_at, unsigned_at}
 use Rattle.gsym_leb128.specs.declared.Cause.{Cause}
 use Rattle.gsym_types.specs.declared.InlineFrame.{InlineFrame}
 use Rattle.gsym_types.specs.declared.Refusal.{Refusal}
@@ -43,7 +43,8 @@ header_unread bytes symbol addr c = (
 )
   where
     go : (x : Result (LineTableHeader × ℕ) Cause) →
-        ((x >>= λ p. Ok (run_of p.0 bytes (record { row = start_row p.0 symbol; at = p.1 }))) >>= λ ran. Ok (row_in ran addr)) ≡ Err c →
+        ((x >>= λ p. Ok (run_of p.0 bytes (record { row = start_row p.0 symbol; at = p.1 })))
+        >>= λ ran. Ok (row_in ran addr)) ≡ Err c →
         x ≡ Err c
     go (Ok p) e = absurd cc
     go (Err d) e = cc
@@ -83,7 +84,8 @@ module _ (q : Question) where
 
     row_given : RowGiven (row_after q item None)
     row_given =
-        by_choice RowGiven (eqb item.kind 1) _ _ (λ k. line (eqb-true item.kind 1 k) (line_row item.bytes q.symbol q.addr) refl)
+        by_choice RowGiven (eqb item.kind 1) _ _
+        (λ k. line (eqb-true item.kind 1 k) (line_row item.bytes q.symbol q.addr) refl)
         (λ k z. absurd (eqb-false item.kind 1 k z))
       where
         line : item.kind ≡ 1 → (l : Result (Option LineTableRow) Cause) → line_row item.bytes q.symbol q.addr ≡ l →
@@ -92,7 +94,8 @@ module _ (q : Question) where
         line k (Ok (Some r)) m = (k, (table (Some r)).0 m)
         line k (Err c) m = (refl, k, (c, (header_unread item.bytes q.symbol q.addr c).1 m))
 
-    row_back : (r s known : Option LineTableRow) → row_after q item r ≡ Ok known → RowFrom known items s → RowFrom r (item ∷ items) s
+    row_back : (r s known : Option LineTableRow) → row_after q item r ≡ Ok known → RowFrom known items s →
+        RowFrom r (item ∷ items) s
     row_back (Some r) s known e h = let k : known ≡ Some r = cc in subst (λ x. RowFrom x items s) k h
     row_back None s known e h = go known (subst RowGiven e row_given) h
       where
@@ -100,14 +103,16 @@ module _ (q : Question) where
         go None n h = row_later s n h
         go (Some r) g h = subst (RowIs q (item ∷ items)) (sym h) (row (first_here _ _ item items g))
 
-    row_refuses : (r : Option LineTableRow) (fs : List InlineFrame) (x : Refusal) → row_after q item r ≡ Err x → ItemRefuses q r fs item x
+    row_refuses : (r : Option LineTableRow) (fs : List InlineFrame) (x : Refusal) → row_after q item r ≡ Err x →
+        ItemRefuses q r fs item x
     row_refuses (Some r) fs x e = absurd cc
     row_refuses None fs x e =
         let g = subst RowGiven e row_given in subst (ItemRefuses q None fs item) (sym g.0) (header g.2.0 refl g.1 g.2.1)
 
     row_pass : GivesNoRow q item → row_after q item None ≡ Ok None
     row_pass n =
-        by_choice (λ x. x ≡ Ok None) (eqb item.kind 1) _ _ (λ k. rw ((table None).1 (n (eqb-true item.kind 1 k)))) (λ k. refl)
+        by_choice (λ x. x ≡ Ok None) (eqb item.kind 1) _ _
+        (λ k. rw ((table None).1 (n (eqb-true item.kind 1 k)))) (λ k. refl)
 
     abbrev RowNext : Option LineTableRow → Option LineTableRow → Type 0
     RowNext r s = (known : Option LineTableRow) × (row_after q item r ≡ Ok known) × RowFrom known items s
@@ -143,11 +148,13 @@ module _ (q : Question) where
     abbrev gives_frames : Block
     gives_frames = block_of q.symbol.0 q.addr.0 q.room item.bytes
 
-    abbrev lists : (fs : List InlineFrame) → (gives_frames ≡ Ok fs) ↔ ListsFrames q.symbol.0 q.addr.0 q.room item.bytes fs
+    abbrev lists :
+        (fs : List InlineFrame) → (gives_frames ≡ Ok fs) ↔ ListsFrames q.symbol.0 q.addr.0 q.room item.bytes fs
     lists fs = block_listed q.symbol.0 q.addr.0 q.room item.bytes fs
 
     -- an item of which no frames come, if inlining is asked for
-    frames_later : (gs : List InlineFrame) → (q.inlining ≡ true → GivesNoFrames q item) → FramesAre q items gs → FramesAre q (item ∷ items) gs
+    frames_later : (gs : List InlineFrame) → (q.inlining ≡ true → GivesNoFrames q item) → FramesAre q items gs →
+        FramesAre q (item ∷ items) gs
     frames_later gs n (no_inlining i) = no_inlining i
     frames_later gs n (no_frames a) = go q.inlining refl
       where
@@ -166,7 +173,8 @@ module _ (q : Question) where
     frames_given : FramesGiven (frames_after q item [])
     frames_given =
         by_choice FramesGiven (eqb item.kind 2) _ _
-        (λ k. by_choice FramesGiven q.inlining _ _ (λ i. inline (eqb-true item.kind 2 k) i gives_frames refl) (λ i j. absurd cc))
+        (λ k. by_choice FramesGiven q.inlining _ _ (λ i. inline (eqb-true item.kind 2 k) i gives_frames refl)
+        (λ i j. absurd cc))
         (λ k i z. absurd (eqb-false item.kind 2 k z))
       where
         inline : item.kind ≡ 2 → q.inlining ≡ true → (l : Block) → gives_frames ≡ l → FramesGiven l
@@ -174,7 +182,8 @@ module _ (q : Question) where
         inline k i (Ok (f ∷ fs)) m = (i, (k, (lists (f ∷ fs)).0 m))
         inline k i (Err x) m = (i, k, (block_refused q.symbol.0 q.addr.0 q.room item.bytes x).0 m)
 
-    frames_back : (fs gs known : List InlineFrame) → frames_after q item fs ≡ Ok known → FramesFrom known items gs → FramesFrom fs (item ∷ items) gs
+    frames_back : (fs gs known : List InlineFrame) → frames_after q item fs ≡ Ok known → FramesFrom known items gs →
+        FramesFrom fs (item ∷ items) gs
     frames_back (f ∷ fs) gs known e h = let k : known ≡ f ∷ fs = cc in subst (λ x. FramesFrom x items gs) k h
     frames_back [] gs known e h = go known (subst FramesGiven e frames_given) h
       where
@@ -182,14 +191,16 @@ module _ (q : Question) where
         go [] n h = frames_later gs n h
         go (f ∷ fs) g h = subst (FramesAre q (item ∷ items)) (sym h) (frames g.0 (first_here _ _ item items g.1))
 
-    frames_refuse : (r : Option LineTableRow) (fs : List InlineFrame) (x : Refusal) → frames_after q item fs ≡ Err x → ItemRefuses q r fs item x
+    frames_refuse : (r : Option LineTableRow) (fs : List InlineFrame) (x : Refusal) → frames_after q item fs ≡ Err x →
+        ItemRefuses q r fs item x
     frames_refuse r (f ∷ fs) x e = absurd cc
     frames_refuse r [] x e = let g = subst FramesGiven e frames_given in block x g.0 refl g.1 g.2
 
     frames_pass : (q.inlining ≡ true → GivesNoFrames q item) → frames_after q item [] ≡ Ok []
     frames_pass n =
         by_choice (λ x. x ≡ Ok []) (eqb item.kind 2) _ _
-        (λ k. by_choice (λ x. x ≡ Ok []) q.inlining _ _ (λ i. (lists []).1 (n i (eqb-true item.kind 2 k))) (λ i. refl)) (λ k. refl)
+        (λ k. by_choice (λ x. x ≡ Ok []) q.inlining _ _ (λ i. (lists []).1 (n i (eqb-true item.kind 2 k))) (λ i. refl))
+        (λ k. refl)
 
     abbrev FramesNext : List InlineFrame → List InlineFrame → Type 0
     FramesNext fs gs = (known : List InlineFrame) × (frames_after q item fs ≡ Ok known) × FramesFrom known items gs
@@ -197,8 +208,11 @@ module _ (q : Question) where
     frames_next : (fs gs : List InlineFrame) → FramesFrom fs (item ∷ items) gs → FramesNext fs gs
     frames_next (f ∷ fs) gs e = (f ∷ fs, refl, e)
     frames_next [] gs (no_inlining i) = ([], frames_pass (λ t. absurd cc), no_inlining i)
-    frames_next [] gs (no_frames a) =
-        ([], frames_pass (λ _. All-head (GivesNoFrames q) item items a), no_frames (All-tail (GivesNoFrames q) item items a))
+    frames_next [] gs (no_frames a) = (
+      [],
+      frames_pass (λ _. All-head (GivesNoFrames q) item items a),
+      no_frames (All-tail (GivesNoFrames q) item items a),
+    )
     frames_next [] gs (frames {f = f} {fs = fs} i F) =
         ⊎_elim
         (λ (h : GivesFrames q (f ∷ fs) item). (f ∷ fs, rw (eq-eqb item.kind 2 h.0, i) ((lists (f ∷ fs)).1 h.1), refl))
@@ -230,8 +244,10 @@ module _ (q : Question) where
   unfolding read_items
   read_outcome [] k = (row_end k.row, frames_end k.frames)
   read_outcome (item ∷ items) k =
-      through (ItemsOutcome k (item ∷ items)) (row_after q item k.row) _ (λ x e. this x (row_refuses item items k.row k.frames x e)) (λ s e.
-      through (ItemsOutcome k (item ∷ items)) (frames_after q item k.frames) _ (λ x f. this x (frames_refuse item items k.row k.frames x f)) (λ gs f.
+      through (ItemsOutcome k (item ∷ items)) (row_after q item k.row) _
+      (λ x e. this x (row_refuses item items k.row k.frames x e)) (λ s e.
+      through (ItemsOutcome k (item ∷ items)) (frames_after q item k.frames) _
+      (λ x f. this x (frames_refuse item items k.row k.frames x f)) (λ gs f.
       onward s e gs f (read_items q items (knowing s gs)) (read_outcome items (knowing s gs))))
     where
       this : (r : Refusal) → ItemRefuses q k.row k.frames item r → Refusing k (item ∷ items) r
@@ -245,7 +261,8 @@ module _ (q : Question) where
         refuses = h;
       }
 
-      onward : (s : Option LineTableRow) → row_after q item k.row ≡ Ok s → (gs : List InlineFrame) → frames_after q item k.frames ≡ Ok gs →
+      onward : (s : Option LineTableRow) → row_after q item k.row ≡ Ok s → (gs : List InlineFrame) →
+          frames_after q item k.frames ≡ Ok gs →
           (o : Result Known Refusal) → ItemsOutcome (knowing s gs) items o → ItemsOutcome k (item ∷ items) o
       onward s e gs f (Ok l) h = (
         row_back item items k.row l.row s e h.0,
@@ -265,7 +282,8 @@ module _ (q : Question) where
       }
 
   -- items that are read hand on what is known
-  read_on : (items rest : List ItemData) (k l : Known) → From k items l → read_items q (items ++ rest) k ≡ read_items q rest l
+  read_on :
+      (items rest : List ItemData) (k l : Known) → From k items l → read_items q (items ++ rest) k ≡ read_items q rest l
   unfolding read_items
   read_on [] rest k l h =
       ap (λ r. read_items q rest (knowing r k.frames)) (row_ended k.row l.row h.0)
@@ -293,7 +311,8 @@ module _ (q : Question) where
   row_other item None k = row_pass item [] (λ z. absurd (omega arith))
 
   -- an item that refuses does so whatever follows
-  refusal : (x : Refusal) (k : Known) (item : ItemData) (items : List ItemData) → ItemRefuses q k.row k.frames item x → read_items q (item ∷ items) k ≡ Err x
+  refusal : (x : Refusal) (k : Known) (item : ItemData) (items : List ItemData) → ItemRefuses q k.row k.frames item x →
+      read_items q (item ∷ items) k ≡ Err x
   unfolding read_items
   refusal x k item items (header c n i e) =
       let u = (header_unread item.bytes q.symbol q.addr c).0 e in rw (n, eq-eqb item.kind 1 i, u)

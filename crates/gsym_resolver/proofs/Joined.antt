@@ -1,6 +1,7 @@
 -- The lookup on the places of the file is the lookup in values, with its places.
 -- Assumes nothing.
-use Rattle.std.proofs.Common.{◌∙◌, ◌≡◌, ℕ, Some, None, Ok, Option, Result, List, [], ◌∷◌, map, refl, option_and_then, if◌then◌else◌}
+use Rattle.std.proofs.Common.{◌∙◌, ◌≡◌, ℕ, Some, None, Ok, Option, Result, List, [], ◌∷◌, map, refl, option_and_then}
+use Rattle.std.proofs.Common.{if◌then◌else◌}
 use Rattle.std.proofs.Math.ListN.{length-map}
 use Rattle.gsym_reads.specs.Steps.{◌>>=◌, ◌>>◌, need, given}
 use Rattle.gsym_types.specs.declared.Address.{Address}
@@ -22,11 +23,13 @@ use Rattle.gsym_parser.specs.Entries.{EntryInfo, symbol_at, info_at, covered_by}
 use Rattle.gsym_parser.specs.Texts.{text_at, name_at}
 use Rattle.gsym_resolver.specs.EntryData.{entry_data, data_at}
 use Rattle.gsym_resolver.specs.SharedTables.{SharedTables, shared_tables, reads_text, reads_name}
-use Rattle.gsym_resolver.specs.EntryAnswer.{PositionData, CallData, EntryAnswer, position_of, call_of, calls_of, entry_answer}
-use Rattle.gsym_resolver.specs.EntryAnswer as values
-use Rattle.gsym_resolver.specs.Lookup.{Landing, landing_at, position_at, call_at, calls_at, LookedUp, lookup_of}
-use Rattle.gsym_resolver.specs.Lookup as places
-use Rattle.gsym_resolver.specs.WithPlaces.{text_with_place, position_with_places, call_with_places, with_places, lookup_in_values}
+use Rattle.gsym_resolver.specs.EntryAnswer.{PositionData, CallData, EntryAnswer, position_of, call_of, calls_of}
+use Rattle.gsym_resolver.specs.EntryAnswer.{first_call_position, calls_moved_up, entry_with_frames, entry_with_row}
+use Rattle.gsym_resolver.specs.EntryAnswer.{entry_with_code, entry_answer}
+use Rattle.gsym_resolver.specs.Lookup.{Landing, landing_at, position_at, call_at, calls_at, first_position, moved_up}
+use Rattle.gsym_resolver.specs.Lookup.{LookedUp, alone, with_frames, with_row, with_code, lookup_of}
+use Rattle.gsym_resolver.specs.WithPlaces.{text_with_place, position_with_places, call_with_places, with_places}
+use Rattle.gsym_resolver.specs.WithPlaces.{lookup_in_values}
 use Rattle.gsym_parser.proofs.Opened.{tables_within}
 use Rattle.gsym_reads.proofs.Steps.{bind_bind, need_bind, if_bind, bind_same, given_same, given_if}
 use Rattle.gsym_resolver.proofs.Shared.{file_in_tables, text_in_tables, name_in_tables}
@@ -56,7 +59,8 @@ module _ (v : View) (w : Within v.file v.tables) where
   name_step e offset f = rw (name_in_tables v w offset) (given_if e (reads_name t offset) _ f)
 
   pub position_joined :
-      (index : FileIndex) (line : LineNumber) → position_at v index line ≡ (position_of t index line >>= λ p. Ok (position_placed p))
+      (index : FileIndex) (line : LineNumber) →
+      position_at v index line ≡ (position_of t index line >>= λ p. Ok (position_placed p))
   unfolding position_at position_of
   position_joined index line = simp (file_in_tables v w, text_step, bind_bind, need_bind)
 
@@ -71,14 +75,14 @@ module _ (v : View) (w : Within v.file v.tables) where
 
   pub first_joined :
       (row : PositionData) (cs : List CallData) →
-      places.first_position (position_placed row) (map called cs) ≡ position_placed (values.first_position row cs)
+      first_position (position_placed row) (map called cs) ≡ position_placed (first_call_position row cs)
   first_joined row [] = refl
   first_joined row (c ∷ cs) = refl
 
   pub moved_joined :
       (row : PositionData) (cs : List CallData) →
-      places.moved_up (position_placed row) (map called cs) ≡ map called (values.moved_up row cs)
-  unfolding places.moved_up values.moved_up
+      moved_up (position_placed row) (map called cs) ≡ map called (calls_moved_up row cs)
+  unfolding moved_up calls_moved_up
   moved_joined row [] = refl
   moved_joined row (c ∷ cs) = rw (first_joined row cs, moved_joined row cs)
 
@@ -96,23 +100,24 @@ module _ (v : View) (w : Within v.file v.tables) where
 
     frames_joined :
         (row : PositionData) (fs : List InlineFrame) →
-        places.with_frames v landing (position_placed row) fs ≡ put (values.with_frames t symbol (entry_data info) row fs)
-    unfolding places.with_frames values.with_frames with_places values.moved_up
+        with_frames v landing (position_placed row) fs
+        ≡ put (entry_with_frames t symbol (entry_data info) row fs)
+    unfolding with_frames entry_with_frames with_places calls_moved_up
     frames_joined row [] = refl
     frames_joined row (f ∷ fs) =
         simp (name_step, calls_joined, bind_bind, need_bind, first_joined, moved_joined, length-map)
 
     row_joined :
         (known : Option LineTableRow) (fs : List InlineFrame) →
-        places.with_row v landing known fs ≡ put (values.with_row t symbol (entry_data info) known fs)
-    unfolding places.with_row values.with_row with_places
+        with_row v landing known fs ≡ put (entry_with_row t symbol (entry_data info) known fs)
+    unfolding with_row entry_with_row with_places
     row_joined None fs = refl
     row_joined (Some row) fs = simp (position_joined, frames_joined, bind_bind)
 
     code_joined :
         (addr : Address) (o : Options) (room : ℕ) →
-        places.with_code v landing addr o.inlining room ≡ put (values.with_code t symbol (entry_data info) addr o room)
-    unfolding places.with_code values.with_code
+        with_code v landing addr o.inlining room ≡ put (entry_with_code t symbol (entry_data info) addr o room)
+    unfolding with_code entry_with_code
     code_joined addr o room = simp (row_joined, bind_bind)
 
     answer_joined :
@@ -121,7 +126,7 @@ module _ (v : View) (w : Within v.file v.tables) where
           need (covered_by addr symbol info.size) refused.UnknownAddress
           name ← given refused.UnreadName (name_at v (record { 0 = info.name }))
           Ok (landing_with name))
-        >>= (λ e. if o.code_info then places.with_code v e addr o.inlining room else Ok (places.alone e))
+        >>= (λ e. if o.code_info then with_code v e addr o.inlining room else Ok (alone e))
         ≡ put (entry_answer t symbol (entry_data info) addr o room)
     unfolding entry_answer with_places
     answer_joined addr o room = simp (name_step, need_bind, code_joined, if_bind)
@@ -136,7 +141,7 @@ module _ (file : List ℕ) (addr : Address) (o : Options) (room : ℕ) where
         need (covered_by addr (symbol_at v i) info.size) refused.UnknownAddress
         name ← given refused.UnreadName (name_at v (record { 0 = info.name }))
         Ok (record { symbol = symbol_at v i; size = info.size; name = name; bytes = info.bytes })) >>= λ e.
-      if o.code_info then places.with_code v e addr o.inlining room else Ok (places.alone e))
+      if o.code_info then with_code v e addr o.inlining room else Ok (alone e))
       ≡ (do
         d ← given refused.UnreadInfo (option_and_then (λ info. Some (entry_data info)) x)
         a ← entry_answer (shared_tables v) (symbol_at v i) d addr o room

@@ -1,6 +1,7 @@
 -- The later frames, as the code makes their records: one call at a time.
 -- Assumes nothing.
-use Rattle.std.proofs.Common.{◌≡◌, ℕ, ◌+◌, ◌<◌, ◌≤◌, List, [], ◌∷◌, ◌++◌, length, drop, get_or, refl, sym, ap, arith, Ok, Err, Result, Some, append_assoc}
+use Rattle.std.proofs.Common.{◌≡◌, ℕ, ◌+◌, ◌<◌, ◌≤◌, List, [], ◌∷◌, ◌++◌, length, drop, get_or, refl, sym, ap, arith}
+use Rattle.std.proofs.Common.{Ok, Err, Result, Some, append_assoc}
 use Rattle.std.proofs.Math.ListN.{drop_of_length-le}
 use Rattle.std.proofs.lemmas.List.{drop_more}
 use Rattle.gsym_reads.specs.Steps.{◌>>=◌}
@@ -11,7 +12,8 @@ use Rattle.gsym_types.specs.declared.Refusal.{Refusal}
 use Rattle.gsym_types.specs.declared.Text.{Text}
 use Rattle.gsym_parser.specs.View.{View}
 use Rattle.gsym_parser.specs.Texts.{name_at}
-use Rattle.gsym_resolver.specs.Lookup.{Landing, placed, call_at, calls_at, first_position, frame_of, moved_up, later_frames, with_frames}
+use Rattle.gsym_resolver.specs.Lookup.{Landing, placed, call_at, calls_at, first_position, frame_of, moved_up}
+use Rattle.gsym_resolver.specs.Lookup.{later_frames, with_frames}
 
 abbrev with_call : Frame → List Frame → Result (List Frame) Refusal
 with_call c cs = Ok (c ∷ cs)
@@ -43,7 +45,8 @@ later_first v row f fs c h = rw h (first_read row c (calls_at v fs))
 step_read :
     (row p : Position) (made : List Frame) (name : Text) (c : Frame) (read : Result (List Frame) Refusal) →
     ((read >>= λ cs. with_call c cs) >>= λ cs. and_records p (made ++ moved_up row (frame_of name row ∷ cs)))
-    ≡ (read >>= λ cs. and_records p ((made ++ frame_of name c.position ∷ []) ++ moved_up row (frame_of c.name row ∷ cs)))
+    ≡ (read >>= λ cs. and_records p
+    ((made ++ frame_of name c.position ∷ []) ++ moved_up row (frame_of c.name row ∷ cs)))
 unfolding moved_up
 step_read row p made name c (Ok cs) =
     ap (and_records p)
@@ -52,7 +55,8 @@ step_read row p made name c (Err r) = refl
 
 -- the call at an index gives its position to the one before it
 pub later_step :
-    (v : View) (row p : Position) (made : List Frame) (name : Text) (behind : List InlineFrame) (i : ℕ) (d : InlineFrame)
+    (v : View) (row p : Position) (made : List Frame) (name : Text) (behind : List InlineFrame) (i : ℕ)
+    (d : InlineFrame)
     (c : Frame) → i < length behind → call_at v (get_or behind i d) ≡ Ok c →
     later_from v row p made name (drop i behind)
     ≡ later_from v row p (made ++ frame_of name c.position ∷ []) c.name (drop (i + 1) behind)
@@ -62,7 +66,8 @@ later_step v row p made name behind i d c l h =
 
 -- one that doesn't read refuses
 pub later_refused :
-    (v : View) (row p : Position) (made : List Frame) (name : Text) (behind : List InlineFrame) (i : ℕ) (d : InlineFrame)
+    (v : View) (row p : Position) (made : List Frame) (name : Text) (behind : List InlineFrame) (i : ℕ)
+    (d : InlineFrame)
     (r : Refusal) → i < length behind → call_at v (get_or behind i d) ≡ Err r →
     later_from v row p made name (drop i behind) ≡ Err r
 unfolding calls_at later_from
@@ -77,7 +82,8 @@ later_end v row p made name behind i l = rw (drop_of_length-le behind l) refl
 
 -- a refusal of theirs is that of all frames
 pub with_refused :
-    (v : View) (e : Landing) (row : Position) (fs : List InlineFrame) (f : InlineFrame) (later : List InlineFrame) (name : Text)
+    (v : View) (e : Landing) (row : Position) (fs : List InlineFrame) (f : InlineFrame) (later : List InlineFrame)
+    (name : Text)
     (r : Refusal) → fs ≡ f ∷ later → name_at v f.name ≡ Some name → Err r ≡ later_frames v row later →
     Err r ≡ with_frames v e row fs
 unfolding with_frames later_frames

@@ -11,17 +11,18 @@ use Rattle.gsym_parser.proofs.Opened.{tables_within}
 use Rattle.gsym_resolver.specs.EntryData.{Entered}
 use Rattle.gsym_resolver.specs.SharedTables.{shared_tables}
 use Rattle.gsym_resolver.specs.Known.{Question}
-use Rattle.gsym_resolver.specs.EntryAnswer.{EntryAnswer}
-use Rattle.gsym_resolver.specs.EntryAnswer as values
+use Rattle.gsym_resolver.specs.EntryAnswer.{EntryAnswer, first_call_position}
 use Rattle.gsym_resolver.specs.Lookup.{LookedUp, lookup_of, first_position, moved_up}
 use Rattle.gsym_resolver.specs.WithPlaces.{with_places}
-use Rattle.gsym_resolver.specs.Met.{entry_question, First, GivesNoFrames, GivesFrames, FramesAre, no_inlining, no_frames, frames}
+use Rattle.gsym_resolver.specs.Met.{entry_question, First, GivesNoFrames, GivesFrames, FramesAre, no_inlining}
+use Rattle.gsym_resolver.specs.Met.{no_frames, frames}
 use Rattle.gsym_resolver.specs.Answered.{on_line, Says, unasked, rowless, frameless, framed}
 use Rattle.gsym_resolver.specs.Blocks.{asked_of, frame_name, frame_position, Listed}
 use Rattle.gsym_resolver.proofs.Shared.{name_in_tables}
 use Rattle.gsym_resolver.proofs.Strings.{name_read}
-use Rattle.gsym_resolver.proofs.Joined.{position_placed, called, position_joined, calls_joined, first_joined, moved_joined}
-use Rattle.gsym_resolver.proofs.Answers.{placed_position}
+use Rattle.gsym_resolver.proofs.Joined.{position_placed, called, position_joined, calls_joined, first_joined}
+use Rattle.gsym_resolver.proofs.Joined.{moved_joined}
+use Rattle.gsym_resolver.proofs.Answers.{placed_position, called_calls}
 use Rattle.gsym_resolver.proofs.Lookups.{lookup_answered}
 
 -- positions move up one, names stay: that settles every record
@@ -79,14 +80,16 @@ module _ (file : List ℕ) (addr : Address) (o : Options) (room : ℕ) (l : Look
         row_position = position_placed v w at;
         row_read = position_joined v w row.file_idx row.file_line ∙ rw e;
         calls = map (called v w) calls;
-        called = calls_joined v w fs ∙ rw k;
-        name = name_in_tables v w f.name ∙ rw ((name_read (shared_tables v) f.name).1 n) (ap Some (sym (ap (λ (x : LookedUp). x.answer.name) p)));
+        called = calls_joined v w fs ∙ rw (called_calls (shared_tables v) fs calls k);
+        name = name_in_tables v w f.name
+            ∙ rw ((name_read (shared_tables v) f.name).1 n) (ap Some (sym (ap (λ (x : LookedUp). x.answer.name) p)));
         names = ap (map frame_name) records ∙ moved_names (position_placed v w at) (map (called v w) calls);
-        position = position_placed v w (values.first_position at calls);
+        position = position_placed v w (first_call_position at calls);
         placed = ap (λ (x : LookedUp). x.answer.position) p;
         positions =
-            ap (λ fs. position_placed v w (values.first_position at calls) ∷ map frame_position fs) records
-            ∙ ap (λ x. x ∷ map frame_position (moved_up (position_placed v w at) (map (called v w) calls))) (sym (first_joined v w at calls))
+            ap (λ fs. position_placed v w (first_call_position at calls) ∷ map frame_position fs) records
+            ∙ ap (λ x. x ∷ map frame_position (moved_up (position_placed v w at) (map (called v w) calls)))
+            (sym (first_joined v w at calls))
             ∙ moved_positions (position_placed v w at) (map (called v w) calls);
       }
 

@@ -1,5 +1,5 @@
--- A lookup is refused exactly where the condition of its refusal is met, the first in the order of RULES; else it answers
--- what the entry's data say that the address lands on.
+-- A lookup is refused exactly where the condition of its refusal is met, the first in the order of RULES; else it
+-- answers what the entry's data say that the address lands on.
 -- Assumes nothing.
 use Rattle.std.proofs.Common.{◌≡◌, ◌↔◌, Ok, Err, Result, IsOk, ℕ, List, refl, sym, subst, ◌∙◌}
 use Rattle.gsym_reads.specs.Steps.{◌>>=◌}

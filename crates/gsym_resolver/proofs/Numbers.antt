@@ -1,7 +1,8 @@
--- Which refusals a lookup can give: without inlining those of 1 to 9, without code info those of 1 to 6; those of 10 to 14
--- are the first fault of one of the entry's blocks; and which come from opening, from the search, from the entry.
+-- Which refusals a lookup can give: without inlining those of 1 to 9, without code info those of 1 to 6; those of 10 to
+-- 14 are the first fault of one of the entry's blocks; and which come from opening, from the search, from the entry.
 -- Assumes nothing.
-use Rattle.std.proofs.Common.{◌≡◌, ◌≤◌, ◌⊎◌, inl, inr, ⊎_elim, Some, None, Ok, Err, Option, ℕ, true, false, List, [], ◌∷◌, ◌++◌, refl, arith}
+use Rattle.std.proofs.Common.{◌≡◌, ◌≤◌, ◌⊎◌, inl, inr, ⊎_elim, Some, None, Ok, Err, Option, ℕ, true, false, List, []}
+use Rattle.std.proofs.Common.{◌∷◌, ◌++◌, refl, arith}
 use Rattle.std.specs.List.{All}
 use Rattle.gsym_types.specs.declared.Address.{Address}
 use Rattle.gsym_types.specs.declared.InlineFrame.{InlineFrame}
@@ -9,7 +10,8 @@ use Rattle.gsym_types.specs.declared.Options.{Options}
 use Rattle.gsym_types.specs.declared.Refusal.{Refusal}
 use Rattle.gsym_types.specs.declared.Refusal.TheVariants.{UnknownAddress, UnreadInfo, UnreadName}
 use Rattle.gsym_types.specs.Refusal.{number_of}
-use Rattle.gsym_parser.specs.Unopened.{Unopened, no_magic, other_magic, no_version, other_version, no_header, no_offsets, no_files, no_strings}
+use Rattle.gsym_parser.specs.Unopened.{Unopened, no_magic, other_magic, no_version, other_version, no_header}
+use Rattle.gsym_parser.specs.Unopened.{no_offsets, no_files, no_strings}
 use Rattle.gsym_parser.specs.View.{View}
 use Rattle.gsym_linetab.specs.declared.LineTableRow.{LineTableRow}
 use Rattle.gsym_parser.specs.Header.{opened_of}
@@ -20,7 +22,8 @@ use Rattle.gsym_resolver.specs.EntryData.{data_at, Entered}
 use Rattle.gsym_resolver.specs.SharedTables.{SharedTables, shared_tables, HasName}
 use Rattle.gsym_resolver.specs.Known.{Question}
 use Rattle.gsym_resolver.specs.Lookup.{lookup_of}
-use Rattle.gsym_resolver.specs.Met.{First, GivesNoFrames, FramesAre, no_inlining, no_frames, frames, ItemRefuses, header, block, FirstRefusing}
+use Rattle.gsym_resolver.specs.Met.{First, GivesNoFrames, FramesAre, no_inlining, no_frames, frames, ItemRefuses}
+use Rattle.gsym_resolver.specs.Met.{header, block, FirstRefusing}
 use Rattle.gsym_resolver.specs.Met.{NoPosition, no_file, no_dir, no_file_name, NoCall, no_name, no_site}
 use Rattle.gsym_resolver.specs.Met.{Unanswered, uncovered, unnamed, unread, unplaced, first_unnamed, uncalled}
 use Rattle.gsym_resolver.specs.Met.{entry_question, Met, not_opened, not_found, no_info, by_entry}
@@ -34,7 +37,8 @@ unplaced_number t i r (no_file l) = (omega arith, omega arith)
 unplaced_number t i r (no_dir f e d) = (omega arith, omega arith)
 unplaced_number t i r (no_file_name f e d n) = (omega arith, omega arith)
 
-uncalled_number : (t : SharedTables) (f : InlineFrame) (r : Refusal) → NoCall t f r → (6 ≤ number_of r) × (number_of r ≤ 8)
+uncalled_number :
+    (t : SharedTables) (f : InlineFrame) (r : Refusal) → NoCall t f r → (6 ≤ number_of r) × (number_of r ≤ 8)
 uncalled_number t f r (no_name n) = (omega arith, omega arith)
 uncalled_number t f r (no_site n u) = let k = unplaced_number t f.call_file r u in (omega (arith, k.0), k.1)
 
@@ -43,7 +47,8 @@ module _ (q : Question) (items : List ItemData) where
   abbrev FirstBlock : Refusal → Type 0
   FirstBlock r = (q.inlining ≡ true) × First (GivesNoFrames q) (BlockRefuses q r) items
 
-  none_listed : (before : List ItemData) (fs : List InlineFrame) → FramesAre q before fs → fs ≡ [] → q.inlining ≡ true → All (GivesNoFrames q) before
+  none_listed : (before : List ItemData) (fs : List InlineFrame) → FramesAre q before fs → fs ≡ [] → q.inlining ≡ true →
+      All (GivesNoFrames q) before
   none_listed before fs (no_inlining i) e t = absurd cc
   none_listed before fs (no_frames a) e t = a
   none_listed before fs (frames i F) e t = absurd cc
@@ -51,8 +56,10 @@ module _ (q : Question) (items : List ItemData) where
   item_number : (r : Refusal) → FirstRefusing q items r → (number_of r ≡ 9) ⊎ FirstBlock r
   item_number r F = go r F.before F.this F.after F.split F.known_row F.known_frames F.frames_are F.refuses
     where
-      go : (x : Refusal) (before : List ItemData) (this : ItemData) (after : List ItemData) → items ≡ before ++ this ∷ after →
-          (known : Option LineTableRow) (fs : List InlineFrame) → FramesAre q before fs → ItemRefuses q known fs this x →
+      go : (x : Refusal) (before : List ItemData) (this : ItemData) (after : List ItemData) →
+          items ≡ before ++ this ∷ after →
+          (known : Option LineTableRow) (fs : List InlineFrame) → FramesAre q before fs →
+          ItemRefuses q known fs this x →
           (number_of x ≡ 9) ⊎ FirstBlock x
       go x before this after s known fs A (header c n k e) = inl refl
       go x before this after s known fs A (block r i n k f) = inr (
@@ -78,18 +85,20 @@ opened_number file r (other_magic m e n) = (omega arith, omega arith)
 opened_number file r (no_version m l) = (omega arith, omega arith)
 opened_number file r (other_version n m e d) = (omega arith, omega arith)
 opened_number file r (no_header m v l) = (omega arith, omega arith)
-opened_number file r (no_offsets h H l) = (omega arith, omega arith)
-opened_number file r (no_files h n H e l) = (omega arith, omega arith)
-opened_number file r (no_strings h n H e k l) = (omega arith, omega arith)
+opened_number file r (no_offsets H l) = (omega arith, omega arith)
+opened_number file r (no_files n H e l) = (omega arith, omega arith)
+opened_number file r (no_strings n H e k l) = (omega arith, omega arith)
 
 -- ---- what each refusal of a lookup comes from, with its number
 
 data Numbered (file : List ℕ) (addr : Address) (o : Options) (room : ℕ) (r : Refusal) : Type 0 where
   is_opening : Unopened file r → OfOpening r → Numbered file addr o room r
   is_nowhere : (v : View) → opened_of file ≡ Ok v → Nowhere v addr → number_of r ≡ 1 → Numbered file addr o room r
-  is_uncovered : (E : Entered file addr) → covered_by addr (symbol_at E.view E.index) E.entry.size ≡ false → number_of r ≡ 1 →
+  is_uncovered :
+      (E : Entered file addr) → covered_by addr (symbol_at E.view E.index) E.entry.size ≡ false → number_of r ≡ 1 →
       Numbered file addr o room r
-  is_unread : (v : View) (i : ℕ) → opened_of file ≡ Ok v → find_of v addr ≡ Some i → data_at v i ≡ None → number_of r ≡ 5 →
+  is_unread :
+      (v : View) (i : ℕ) → opened_of file ≡ Ok v → find_of v addr ≡ Some i → data_at v i ≡ None → number_of r ≡ 5 →
       Numbered file addr o room r
   is_unnamed : (E : Entered file addr) → covered_by addr (symbol_at E.view E.index) E.entry.size ≡ true →
       (HasName (shared_tables E.view) E.entry.name → ⊥) → number_of r ≡ 6 → Numbered file addr o room r
@@ -127,7 +136,8 @@ module _ (file : List ℕ) (addr : Address) (o : Options) (room : ℕ) where
   numbered r e = met_numbered r (lookup_met file addr o room r e)
 
   -- 10 to 14 are the first fault of a block
-  pub refused_by_block : (r : Refusal) → 10 ≤ number_of r → lookup_of file addr o room ≡ Err r → RefusedByBlock file addr o room r
+  pub refused_by_block :
+      (r : Refusal) → 10 ≤ number_of r → lookup_of file addr o room ≡ Err r → RefusedByBlock file addr o room r
   refused_by_block r l e = go (numbered r e)
     where
       go : Numbered file addr o room r → RefusedByBlock file addr o room r

@@ -1,9 +1,11 @@
--- What every answer has: its symbol covers the address and is not above it; the count is the number of records, which are
--- fewer than the room, since the block's first frame counts too; without inlining or code info there are none.
+-- What every answer has: its symbol covers the address and is not above it; the count is the number of records, which
+-- are fewer than the room, since the block's first frame counts too; without inlining or code info there are none.
 -- Assumes nothing.
-use Rattle.std.proofs.Common.{◌≡◌, ◌≤◌, ◌+◌, ◌⊎◌, inl, inr, ⊎_elim, Ok, ℕ, suc, Bool, true, false, List, [], ◌∷◌, map, length, refl, sym, ap, subst, ◌∙◌, arith, ltb, ◌-◌, ◌==◌, nat_lt, if◌then◌else◌}
+use Rattle.std.proofs.Common.{◌≡◌, ◌≤◌, ◌+◌, ◌⊎◌, inl, inr, ⊎_elim, Ok, ℕ, suc, Bool, true, false, List, [], ◌∷◌, map}
+use Rattle.std.proofs.Common.{length, refl, sym, ap, subst, ◌∙◌, arith, ltb, ◌-◌, ◌==◌, nat_lt, if◌then◌else◌}
 use Rattle.std.proofs.Math.ListN.{length-map}
 use Rattle.std.proofs.lemmas.Bool.{ltb-false}
+use Rattle.std.proofs.lemmas.Slice.Zip.{AllZip-long}
 use Rattle.gsym_types.specs.declared.Address.{Address}
 use Rattle.gsym_types.specs.declared.InlineFrame.{InlineFrame}
 use Rattle.gsym_types.specs.declared.Options.{Options}
@@ -11,13 +13,12 @@ use Rattle.gsym_parser.specs.Entries.{covered_by}
 use Rattle.gsym_resolver.specs.EntryData.{EntryData}
 use Rattle.gsym_resolver.specs.SharedTables.{SharedTables, shared_tables}
 use Rattle.gsym_resolver.specs.Known.{Question, question}
-use Rattle.gsym_resolver.specs.EntryAnswer.{PositionData, CallData, EntryAnswer, moved_up}
+use Rattle.gsym_resolver.specs.EntryAnswer.{PositionData, CallData, EntryAnswer, calls_moved_up}
 use Rattle.gsym_resolver.specs.Lookup.{LookedUp, lookup_of}
 use Rattle.gsym_resolver.specs.WithPlaces.{with_places}
 use Rattle.gsym_resolver.specs.Met.{EntryQuestion, FramesAre, no_inlining, no_frames, frames}
-use Rattle.gsym_resolver.specs.Answered.{on_line, Says, unasked, rowless, frameless, framed, Answered}
+use Rattle.gsym_resolver.specs.Answered.{on_line, IsCallOf, Says, unasked, rowless, frameless, framed, Answered}
 use Rattle.gsym_resolver.proofs.Blocks.{listed_room}
-use Rattle.gsym_resolver.proofs.Answers.{CallsOutcome, calls_outcome}
 use Rattle.gsym_resolver.proofs.Lookups.{lookup_answered}
 
 -- a symbol that covers an address is not above it
@@ -25,12 +26,13 @@ pub covered_below : (addr symbol : Address) (size : ℕ) → covered_by addr sym
 unfolding covered_by
 covered_below addr symbol size e = go (ltb addr.0 symbol.0) refl e
   where
-    go : (b : Bool) → ltb addr.0 symbol.0 ≡ b → (if b then false else (if size == 0 then true else nat_lt (addr.0 - symbol.0) size)) ≡ true → symbol.0 ≤ addr.0
+    go : (b : Bool) → ltb addr.0 symbol.0 ≡ b →
+        (if b then false else (if size == 0 then true else nat_lt (addr.0 - symbol.0) size)) ≡ true → symbol.0 ≤ addr.0
     go true k e = absurd cc
     go false k e = ltb-false _ _ k
 
-length_moved : (row : PositionData) (cs : List CallData) → length (moved_up row cs) ≡ length cs
-unfolding moved_up
+length_moved : (row : PositionData) (cs : List CallData) → length (calls_moved_up row cs) ≡ length cs
+unfolding calls_moved_up
 length_moved row [] = refl
 length_moved row (c ∷ cs) = ap suc (length_moved row cs)
 
@@ -56,7 +58,7 @@ module _ (t : SharedTables) (symbol : Address) (d : EntryData) (addr : Address) 
   says_room a (frameless row G P) = inl refl
   says_room a (framed row f fs calls G P n k) =
       let l = frames_room (question symbol addr room o.inlining) d.items (f ∷ fs) G.frames_are in
-      let m = (subst (CallsOutcome t fs) k (calls_outcome t fs)).1 in
+      let m = AllZip-long (IsCallOf t) fs calls k in
       let r = length_moved (on_line P.file row.file_line) calls in
       inr (omega arith)
 
@@ -71,14 +73,16 @@ module _ (t : SharedTables) (symbol : Address) (d : EntryData) (addr : Address) 
       (λ (x : o.inlining ≡ false). absurd (none (f ∷ fs) refl G.frames_are x))
       h
     where
-      none : (gs : List InlineFrame) → f ∷ fs ≡ gs → FramesAre (question symbol addr room o.inlining) d.items gs → o.inlining ≡ false → ⊥
+      none : (gs : List InlineFrame) → f ∷ fs ≡ gs → FramesAre (question symbol addr room o.inlining) d.items gs →
+          o.inlining ≡ false → ⊥
       none gs e (no_inlining i) x = cc
       none gs e (no_frames a) x = cc
       none gs e (frames i F) x = cc
 
 -- ---- a lookup
 
-module _ (file : List ℕ) (addr : Address) (o : Options) (room : ℕ) (l : LookedUp) (e : lookup_of file addr o room ≡ Ok l) where
+module _ (file : List ℕ) (addr : Address) (o : Options) (room : ℕ) (l : LookedUp)
+    (e : lookup_of file addr o room ≡ Ok l) where
   abbrev A : Answered file addr o room l
   A = (lookup_answered file addr o room l).0 e
 

@@ -1,7 +1,8 @@
 -- The shared tables of an opened file: their rows are those of the file table in place, and a string or a name reads in
 -- the file exactly where it reads in them.
 -- Assumes nothing.
-use Rattle.std.proofs.Common.{◌≡◌, ℕ, zero, suc, ◌+◌, ◌*◌, ◌<◌, ◌≤◌, Some, None, Option, List, drop, refl, sym, ap, ◌∙◌, ⊎_elim, is_some, slice_get, drop-drop, length-drop, arith, lt-ltb, le-ltb, if◌then◌else◌}
+use Rattle.std.proofs.Common.{◌≡◌, ℕ, zero, suc, ◌+◌, ◌*◌, ◌<◌, ◌≤◌, Some, None, Option, List, drop, refl, sym, ap, ◌∙◌}
+use Rattle.std.proofs.Common.{⊎_elim, is_some, slice_get, drop-drop, length-drop, arith, lt-ltb, le-ltb, if◌then◌else◌}
 use Rattle.std.proofs.lemmas.Bool.{cases_lt}
 use Rattle.gsym_types.specs.declared.FileIndex.{FileIndex}
 use Rattle.gsym_types.specs.declared.StrOffset.{StrOffset}
@@ -47,7 +48,8 @@ nth_there zero i bytes h = absurd (omega arith)
 nth_there (suc n) zero bytes h = refl
 nth_there (suc n) (suc i) bytes h =
     let e : 8 + i * 8 ≡ suc i * 8 = omega arith in
-    nth_there n i (drop 8 bytes) (omega arith) ∙ ap (λ l. Some (file_row l)) (drop-drop (i * 8) 8 bytes ∙ ap (λ k. drop k bytes) e)
+    nth_there n i (drop 8 bytes) (omega arith)
+    ∙ ap (λ l. Some (file_row l)) (drop-drop (i * 8) 8 bytes ∙ ap (λ k. drop k bytes) e)
 
 nth_none : (n i : ℕ) (bytes : List ℕ) → n ≤ i → slice_get (files_in n bytes) i ≡ None
 unfolding files_in
@@ -66,14 +68,22 @@ module _ (v : View) (w : Within v.file v.tables) where
       let row = drop (v.tables.files + index.0 * 8) v.file in
       let first = u32_there row (rw length-drop (omega (arith, w.files_end))) in
       let second = u32_there (drop 4 row) (rw (length-drop, length-drop) (omega (arith, w.files_end))) in
-      rw (lt-ltb _ _ l, first, second, nth_there v.tables.file_count index.0 (drop v.tables.files v.file) l, drop-drop (index.0 * 8) v.tables.files v.file))
+      rw (
+        lt-ltb _ _ l,
+        first,
+        second,
+        nth_there v.tables.file_count index.0 (drop v.tables.files v.file) l,
+        drop-drop (index.0 * 8) v.tables.files v.file,
+      ))
       (λ (l : v.tables.file_count ≤ index.0).
       rw (le-ltb _ _ l) (sym (nth_none v.tables.file_count index.0 (drop v.tables.files v.file) l)))
       (cases_lt index.0 v.tables.file_count)
 
   pub text_in_tables :
       (offset : StrOffset) → text_at v offset
-      ≡ (if reads_text (shared_tables v) offset then Some (text_with_place (shared_tables v) v.tables.strings.place offset) else None)
+      ≡ (if reads_text (shared_tables v) offset
+      then Some (text_with_place (shared_tables v) v.tables.strings.place offset)
+      else None)
   unfolding shared_tables
   text_in_tables offset =
       text_in-table v.file v.tables.strings offset w.strings_end
@@ -81,7 +91,9 @@ module _ (v : View) (w : Within v.file v.tables) where
 
   pub name_in_tables :
       (offset : StrOffset) → name_at v offset
-      ≡ (if reads_name (shared_tables v) offset then Some (text_with_place (shared_tables v) v.tables.strings.place offset) else None)
+      ≡ (if reads_name (shared_tables v) offset
+      then Some (text_with_place (shared_tables v) v.tables.strings.place offset)
+      else None)
   unfolding shared_tables
   name_in_tables offset =
       name-in-table v.file v.tables.strings offset w.strings_end

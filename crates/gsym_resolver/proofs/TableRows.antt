@@ -1,6 +1,7 @@
 -- The row of a line table, by the function that finds it and in RULES' words, is the same.
 -- Assumes nothing.
-use Rattle.std.proofs.Common.{◌≡◌, ◌↔◌, ◌<◌, ◌≤◌, ◌⊎◌, inl, inr, ⊎_elim, List, [], ◌∷◌, ◌++◌, refl, sym, ap, ◌∙◌, Ok, Err, Option, Result, ℕ}
+use Rattle.std.proofs.Common.{◌≡◌, ◌↔◌, ◌<◌, ◌≤◌, ◌⊎◌, inl, inr, ⊎_elim, List, [], ◌∷◌, ◌++◌, refl, sym, ap, ◌∙◌, Ok}
+use Rattle.std.proofs.Common.{Err, Option, Result, ℕ}
 use Rattle.std.proofs.lemmas.Bool.Decides.{leb_tells}
 use Rattle.std.proofs.lemmas.List.Elements.{All-nil, All-cons}
 use Rattle.gsym_reads.specs.Steps.{◌>>=◌}
@@ -23,7 +24,8 @@ record Passed (addr : Address) (rows : List LineTableRow) : Type 0 where
 
 passed_or_none : (addr : Address) (rows : List LineTableRow) → NoneAbove addr rows ⊎ Passed addr rows
 passed_or_none addr [] = inl (All-nil (λ row. row.addr.0 ≤ addr.0))
-passed_or_none addr (r ∷ rows) = ⊎_elim (λ b. later b.1 (passed_or_none addr rows)) (λ a. inr (here a.1)) (leb_tells r.addr.0 addr.0)
+passed_or_none addr (r ∷ rows) =
+    ⊎_elim (λ b. later b.1 (passed_or_none addr rows)) (λ a. inr (here a.1)) (leb_tells r.addr.0 addr.0)
   where
     here : addr.0 < r.addr.0 → Passed addr (r ∷ rows)
     here a = record {
@@ -35,7 +37,8 @@ passed_or_none addr (r ∷ rows) = ⊎_elim (λ b. later b.1 (passed_or_none add
       above = a;
     }
 
-    later : r.addr.0 ≤ addr.0 → NoneAbove addr rows ⊎ Passed addr rows → NoneAbove addr (r ∷ rows) ⊎ Passed addr (r ∷ rows)
+    later :
+        r.addr.0 ≤ addr.0 → NoneAbove addr rows ⊎ Passed addr rows → NoneAbove addr (r ∷ rows) ⊎ Passed addr (r ∷ rows)
     later b (inl n) = inl (All-cons (λ row. row.addr.0 ≤ addr.0) r rows b n)
     later b (inr p) = inr (record {
       front = r ∷ p.front;

@@ -1,7 +1,9 @@
 -- What an answer shows, each text as its bytes, comes from the shared tables, the symbol's address and the entry's data
 -- alone.
 -- Assumes nothing.
-use Rattle.std.proofs.Common.{◌≡◌, Some, None, Ok, Err, Option, Result, ℕ, zero, suc, ◌+◌, ◌-◌, ◌<◌, ◌≤◌, List, [], ◌∷◌, map, option_map, length, take, drop, length-drop, take-take, drop-drop, length-take-le, refl, sym, ap, ◌∙◌, arith, le-leb}
+use Rattle.std.proofs.Common.{◌≡◌, Some, None, Ok, Err, Option, Result, ℕ, zero, suc, ◌+◌, ◌-◌, ◌<◌, ◌≤◌, List, [], ◌∷◌}
+use Rattle.std.proofs.Common.{map, option_map, length, take, drop, length-drop, take-take, drop-drop, length-take-le}
+use Rattle.std.proofs.Common.{refl, sym, ap, ◌∙◌, arith, le-leb}
 use Rattle.std.specs.Result.{result_map_both}
 use lib.Seq.{take-nil}
 use Rattle.gsym_reads.specs.Steps.{◌>>=◌}
@@ -69,7 +71,8 @@ module _ (v : View) (w : Within v.file v.tables) where
   position_bytes : (p : PositionData) → position_with_texts v.file (position_with_places t start p) ≡ position_texts t p
   position_bytes p = rw (text_bytes p.row.directory, text_bytes p.row.filename)
 
-  calls_bytes : (cs : List CallData) → map (frame_with_texts v.file) (map (call_with_places t start) cs) ≡ map (call_texts t) cs
+  calls_bytes :
+      (cs : List CallData) → map (frame_with_texts v.file) (map (call_with_places t start) cs) ≡ map (call_texts t) cs
   calls_bytes [] = refl
   calls_bytes (c ∷ cs) = rw (text_bytes c.name, position_bytes c.position, calls_bytes cs)
 
@@ -78,7 +81,8 @@ module _ (v : View) (w : Within v.file v.tables) where
   answer_bytes a = rw (text_bytes a.name, calls_bytes a.calls, at a.position)
     where
       at : (p : Option PositionData) →
-          option_map (position_with_texts v.file) (option_map (position_with_places t start) p) ≡ option_map (position_texts t) p
+          option_map (position_with_texts v.file) (option_map (position_with_places t start) p)
+          ≡ option_map (position_texts t) p
       at (Some p) = ap Some (position_bytes p)
       at None = refl
 
@@ -89,10 +93,13 @@ pub lookup_texts :
     ≡ result_map_both (answer_texts (shared_tables E.view)) (λ r. r)
     (entry_answer (shared_tables E.view) (symbol_at E.view E.index) E.entry addr o room)
 lookup_texts file addr o room E =
-    rw (lookup_entered file addr o room E) (go (entry_answer (shared_tables E.view) (symbol_at E.view E.index) E.entry addr o room))
+    rw (lookup_entered file addr o room E)
+    (go (entry_answer (shared_tables E.view) (symbol_at E.view E.index) E.entry addr o room))
   where
     go : (x : Result EntryAnswer Refusal) →
-        result_map_both (with_texts file) (λ r. r) (x >>= λ a. Ok (with_places (shared_tables E.view) E.view.tables.strings.place a))
+        result_map_both (with_texts file) (λ r. r)
+        (x >>= λ a. Ok (with_places (shared_tables E.view) E.view.tables.strings.place a))
         ≡ result_map_both (answer_texts (shared_tables E.view)) (λ r. r) x
-    go (Ok a) = rw (← opened_file file E.view E.opens) (ap (λ x. Ok x) (answer_bytes E.view (tables_within file E.view E.opens) a))
+    go (Ok a) = rw (← opened_file file E.view E.opens)
+        (ap (λ x. Ok x) (answer_bytes E.view (tables_within file E.view E.opens) a))
     go (Err r) = refl

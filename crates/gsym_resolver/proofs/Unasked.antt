@@ -53,7 +53,8 @@ code_room v e addr room = rw (items_room e.symbol addr room (items_of e.bytes) n
 -- without both options
 pub lookup_unasked :
     (file : List ℕ) (addr : Address) (code inlining : Bool) (room : ℕ) → (code && inlining) ≡ false →
-    lookup_of file addr (record { code_info = code; inlining = inlining }) room ≡ lookup_of file addr (plain_options code) 0
+    lookup_of file addr (record { code_info = code; inlining = inlining }) room
+    ≡ lookup_of file addr (plain_options code) 0
 unfolding lookup_of
 lookup_unasked file addr false inlining room h = refl
 lookup_unasked file addr true false room h =

@@ -12,21 +12,20 @@ use Rattle.gsym_types.specs.declared.Text.{Text}
 use Rattle.gsym_linetab.specs.declared.LineTableRow.{LineTableRow}
 use Rattle.gsym_inline.specs.Steps.{steps_of}
 use Rattle.gsym_inline.specs.FirstFault.{FirstFault}
-use Rattle.gsym_parser.specs.Entries.{symbol_at}
 use Rattle.gsym_parser.specs.Texts.{name_at}
 use Rattle.gsym_parser.specs.Items.{ItemData}
 use Rattle.gsym_resolver.specs.EntryData.{Entered}
-use Rattle.gsym_resolver.specs.Known.{Question, question}
+use Rattle.gsym_resolver.specs.Known.{Question, inline_info}
 use Rattle.gsym_resolver.specs.Lookup.{LookedUp, position_at, calls_at}
-use Rattle.gsym_resolver.specs.Met.{First, GivesNoFrames, GivesFrames, RowIs, Asked, entry_question}
+use Rattle.gsym_resolver.specs.Met.{First, GivesNoFrames, GivesFrames, RowIs, Asked, entry_question, items_question}
 
 -- what a lookup asks of the items of the entry that it lands on
 abbrev pub asked_of : {file : List ℕ} {addr : Address} → Entered file addr → Options → (room : ℕ) → Question
-asked_of {addr = addr} E o room = question (symbol_at E.view E.index) addr room o.inlining
+asked_of E o room = items_question (entry_question E o room)
 
 -- an inline block that is refused with its first fault
 abbrev pub BlockRefuses : Question → Refusal → ItemData → Type 0
-BlockRefuses q r item = (item.kind ≡ 2) × FirstFault q.room (steps_of q.symbol.0 q.addr.0 item.bytes) r
+BlockRefuses q r item = (item.kind ≡ inline_info) × FirstFault q.room (steps_of q.symbol.0 q.addr.0 item.bytes) r
 
 -- the entry covers the address, its name reads, and position and inlining are asked for; its first inline block that
 -- doesn't list none is refused so
@@ -34,7 +33,8 @@ pub record RefusedByBlock (file : List ℕ) (addr : Address) (o : Options) (room
   pub entered : Entered file addr
   pub asked : Asked (entry_question entered o room)
   pub inlining : o.inlining ≡ true
-  pub block : First (GivesNoFrames (asked_of entered o room)) (BlockRefuses (asked_of entered o room) r) entered.entry.items
+  pub block : First (GivesNoFrames (asked_of entered o room))
+      (BlockRefuses (asked_of entered o room) r) entered.entry.items
 
 abbrev pub frame_name : Frame → Text
 frame_name f = f.name
@@ -49,7 +49,8 @@ pub record Listed (file : List ℕ) (addr : Address) (o : Options) (room : ℕ) 
   pub entered : Entered file addr
   pub frame : InlineFrame
   pub later : List InlineFrame
-  pub block : First (GivesNoFrames (asked_of entered o room)) (GivesFrames (asked_of entered o room) (frame ∷ later)) entered.entry.items
+  pub block : First (GivesNoFrames (asked_of entered o room))
+      (GivesFrames (asked_of entered o room) (frame ∷ later)) entered.entry.items
   pub row : LineTableRow
   pub row_is : RowIs (asked_of entered o room) entered.entry.items (Some row)
   pub row_position : Position

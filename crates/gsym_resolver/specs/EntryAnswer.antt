@@ -62,49 +62,53 @@ calls_of t (f ∷ fs) = do
   Ok (c ∷ cs)
 
 -- the position of the first call, or the row's
-abbrev pub first_position : PositionData → List CallData → PositionData
-first_position row [] = row
-first_position row (c ∷ cs) = c.position
+abbrev pub first_call_position : PositionData → List CallData → PositionData
+first_call_position row [] = row
+first_call_position row (c ∷ cs) = c.position
 
 -- positions move up one: each call gets that of the one after it, the last the row's
-unfoldable pub moved_up : PositionData → List CallData → List CallData
-moved_up row [] = []
-moved_up row (c ∷ cs) = record { name = c.name; position = first_position row cs } ∷ moved_up row cs
+unfoldable pub calls_moved_up : PositionData → List CallData → List CallData
+calls_moved_up row [] = []
+calls_moved_up row (c ∷ cs) = record { name = c.name; position = first_call_position row cs } ∷ calls_moved_up row cs
 
 -- ---- the answer
 
 -- the symbol alone, and at a position with the later frames
-abbrev pub alone : Address → EntryData → EntryAnswer
-alone symbol d = record { addr = symbol; size = d.size; name = d.name; position = None; calls = [] }
+abbrev pub entry_alone : Address → EntryData → EntryAnswer
+entry_alone symbol d = record { addr = symbol; size = d.size; name = d.name; position = None; calls = [] }
 
-abbrev pub placed : Address → EntryData → StrOffset → PositionData → List CallData → EntryAnswer
-placed symbol d name p calls =
+abbrev pub entry_placed : Address → EntryData → StrOffset → PositionData → List CallData → EntryAnswer
+entry_placed symbol d name p calls =
     record { addr = symbol; size = d.size; name = name; position = Some p; calls = calls }
 
 -- the first frame only gives its name to the symbol (6); each later one has a call
-unfoldable pub with_frames : SharedTables → Address → EntryData → PositionData → List InlineFrame → Result EntryAnswer Refusal
-with_frames t symbol d row [] = Ok (placed symbol d d.name row [])
-with_frames t symbol d row (f ∷ fs) = do
+unfoldable pub entry_with_frames :
+    SharedTables → Address → EntryData → PositionData → List InlineFrame → Result EntryAnswer Refusal
+entry_with_frames t symbol d row [] = Ok (entry_placed symbol d d.name row [])
+entry_with_frames t symbol d row (f ∷ fs) = do
   need (reads_name t f.name) refused.UnreadName
   calls ← calls_of t fs
-  Ok (placed symbol d f.name (first_position row calls) (moved_up row calls))
+  Ok (entry_placed symbol d f.name (first_call_position row calls) (calls_moved_up row calls))
 
 -- without a row there is no position and there are no frames
-unfoldable pub with_row : SharedTables → Address → EntryData → Option LineTableRow → List InlineFrame → Result EntryAnswer Refusal
-with_row t symbol d None fs = Ok (alone symbol d)
-with_row t symbol d (Some row) fs = do
+unfoldable pub entry_with_row :
+    SharedTables → Address → EntryData → Option LineTableRow → List InlineFrame → Result EntryAnswer Refusal
+entry_with_row t symbol d None fs = Ok (entry_alone symbol d)
+entry_with_row t symbol d (Some row) fs = do
   p ← position_of t row.file_idx row.file_line
-  with_frames t symbol d p fs
+  entry_with_frames t symbol d p fs
 
 -- the items in list order (9 to 14), and what they say
-unfoldable pub with_code : SharedTables → Address → EntryData → Address → Options → (room : ℕ) → Result EntryAnswer Refusal
-with_code t symbol d addr o room = do
+unfoldable pub entry_with_code :
+    SharedTables → Address → EntryData → Address → Options → (room : ℕ) → Result EntryAnswer Refusal
+entry_with_code t symbol d addr o room = do
   known ← read_items (question symbol addr room o.inlining) d.items nothing
-  with_row t symbol d known.row known.frames
+  entry_with_row t symbol d known.row known.frames
 
 -- what an entry says: its size (1), its name (6), and if code info is asked for, what its items say
-unfoldable pub entry_answer : SharedTables → (symbol : Address) → EntryData → (addr : Address) → Options → (room : ℕ) → Result EntryAnswer Refusal
+unfoldable pub entry_answer :
+    SharedTables → (symbol : Address) → EntryData → (addr : Address) → Options → (room : ℕ) → Result EntryAnswer Refusal
 entry_answer t symbol d addr o room = do
   need (covered_by addr symbol d.size) refused.UnknownAddress
   need (reads_name t d.name) refused.UnreadName
-  if o.code_info then with_code t symbol d addr o room else Ok (alone symbol d)
+  if o.code_info then entry_with_code t symbol d addr o room else Ok (entry_alone symbol d)

@@ -12,6 +12,13 @@ use Rattle.gsym_linetab.specs.Rows.{line_row}
 use Rattle.gsym_inline.specs.Block.{block_of}
 use Rattle.gsym_parser.specs.Items.{ItemData}
 
+-- the types of the items that are read
+abbrev pub line_table : ℕ
+line_table = 1
+
+abbrev pub inline_info : ℕ
+inline_info = 2
+
 -- what is asked of the items: the symbol's address, the wanted one, room for so many frames, and whether frames are
 -- wanted
 pub record Question : Type 0 where
@@ -39,13 +46,15 @@ nothing = knowing None []
 abbrev pub row_after : Question → ItemData → Option LineTableRow → Result (Option LineTableRow) Refusal
 row_after q item (Some row) = Ok (Some row)
 row_after q item None =
-    if item.kind == 1 then told (λ _. refused.UnreadLineHeader) (line_row item.bytes q.symbol q.addr) else Ok None
+    if item.kind == line_table
+    then told (λ _. refused.UnreadLineHeader) (line_row item.bytes q.symbol q.addr)
+    else Ok None
 
 -- type 2 is read if inlining is asked for and no frame is known yet: 10 to 14
 abbrev pub frames_after : Question → ItemData → List InlineFrame → Result (List InlineFrame) Refusal
 frames_after q item (f ∷ fs) = Ok (f ∷ fs)
 frames_after q item [] =
-    if item.kind == 2
+    if item.kind == inline_info
     then if q.inlining then block_of q.symbol.0 q.addr.0 q.room item.bytes else Ok []
     else Ok []
 

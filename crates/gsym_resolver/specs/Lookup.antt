@@ -2,7 +2,8 @@
 -- its name (6), its items in list order (9 to 14), the row's position (7, 8), the first frame's name (6), each later
 -- frame (6, 7, 8), and the positions moved up one. Texts are places of the file. `WithPlaces` tells the same in values.
 -- Assumes nothing.
-use Rattle.std.specs.Prelude.{ℕ, Bool, true, false, List, [], ◌∷◌, length, Some, None, Ok, Err, Option, Result, if◌then◌else◌}
+use Rattle.std.specs.Prelude.{ℕ, Bool, true, false, List, [], ◌∷◌, length, Some, None, Ok, Err, Option, Result}
+use Rattle.std.specs.Prelude.{if◌then◌else◌}
 use Rattle.gsym_reads.specs.Steps.{◌>>=◌, ◌>>◌, need, given}
 use Rattle.gsym_types.specs.declared.Address.{Address}
 use Rattle.gsym_types.specs.declared.Answer.{Answer}

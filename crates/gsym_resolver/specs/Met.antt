@@ -1,7 +1,8 @@
--- When each refusal of a lookup is given (RULES, "Refusal numbers" and "Address data list"): its condition, which is the
--- first met in the order of RULES.
+-- When each refusal of a lookup is given (RULES, "Refusal numbers" and "Address data list"): its condition, which is
+-- the first met in the order of RULES.
 -- Assumes nothing.
-use Rattle.std.specs.Prelude.{Some, None, Ok, Err, Option, ℕ, ℤ, ◌≤◌, true, false, List, [], ◌∷◌, ◌++◌, ◌≡◌, length, slice_get}
+use Rattle.std.specs.Prelude.{Some, None, Ok, Option, ℕ, ◌≤◌, true, false, List, [], ◌∷◌, ◌++◌, ◌≡◌, length}
+use Rattle.std.specs.Prelude.{slice_get}
 use Rattle.std.specs.List.{All}
 use Rattle.gsym_types.specs.declared.Address.{Address}
 use Rattle.gsym_types.specs.declared.FileIndex.{FileIndex}
@@ -26,7 +27,7 @@ use Rattle.gsym_parser.specs.Entries.{symbol_at, covered_by}
 use Rattle.gsym_parser.specs.Items.{ItemData}
 use Rattle.gsym_resolver.specs.EntryData.{EntryData, data_at, Entered}
 use Rattle.gsym_resolver.specs.SharedTables.{SharedTables, shared_tables, HasText, HasName}
-use Rattle.gsym_resolver.specs.Known.{Question, question}
+use Rattle.gsym_resolver.specs.Known.{Question, question, line_table, inline_info}
 
 -- the first of a list of which P holds: of each before it N does
 pub record First {A : Type 0} (N P : A → Type 0) (xs : List A) : Type 0 where
@@ -47,21 +48,21 @@ pub record TableGives (symbol addr : Address) (bytes : List ℕ) (row : Option L
   pub reads : table_of bytes symbol ≡ Ok table
   pub row_is : IsRowFor table addr row
 
--- an item gives no row: it is no line table (type 1), or one that gives none
+-- an item gives no row: it is no line table, or one that gives none
 abbrev pub GivesNoRow : Question → ItemData → Type 0
-GivesNoRow q item = item.kind ≡ 1 → TableGives q.symbol q.addr item.bytes None
+GivesNoRow q item = item.kind ≡ line_table → TableGives q.symbol q.addr item.bytes None
 
 -- it is a line table that gives this row
 abbrev pub GivesRow : Question → LineTableRow → ItemData → Type 0
-GivesRow q row item = (item.kind ≡ 1) × TableGives q.symbol q.addr item.bytes (Some row)
+GivesRow q row item = (item.kind ≡ line_table) × TableGives q.symbol q.addr item.bytes (Some row)
 
--- an item gives no frames: it is no inline block (type 2), or one that reads and lists none
+-- an item gives no frames: it is no inline block, or one that reads and lists none
 abbrev pub GivesNoFrames : Question → ItemData → Type 0
-GivesNoFrames q item = item.kind ≡ 2 → ListsFrames q.symbol.0 q.addr.0 q.room item.bytes []
+GivesNoFrames q item = item.kind ≡ inline_info → ListsFrames q.symbol.0 q.addr.0 q.room item.bytes []
 
 -- it is an inline block that lists these
 abbrev pub GivesFrames : Question → List InlineFrame → ItemData → Type 0
-GivesFrames q fs item = (item.kind ≡ 2) × ListsFrames q.symbol.0 q.addr.0 q.room item.bytes fs
+GivesFrames q fs item = (item.kind ≡ inline_info) × ListsFrames q.symbol.0 q.addr.0 q.room item.bytes fs
 
 -- the row after items: that of the first line table with one
 pub data RowIs (q : Question) (items : List ItemData) : Option LineTableRow → Type 0 where
@@ -75,13 +76,13 @@ pub data FramesAre (q : Question) (items : List ItemData) : List InlineFrame →
   frames : {f : InlineFrame} {fs : List InlineFrame} → q.inlining ≡ true →
       First (GivesNoFrames q) (GivesFrames q (f ∷ fs)) items → FramesAre q items (f ∷ fs)
 
--- why an item refuses when it is read, after a row and frames: a line table's header that doesn't read (9), where no row
--- is known; an inline block's first fault (10 to 14), where inlining is asked for and no frame is known
+-- why an item refuses when it is read, after a row and frames: a line table's header that doesn't read (9), where no
+-- row is known; an inline block's first fault (10 to 14), where inlining is asked for and no frame is known
 pub data ItemRefuses (q : Question) (known : Option LineTableRow) (fs : List InlineFrame) (item : ItemData)
     : Refusal → Type 0 where
-  header : (c : Cause) → known ≡ None → item.kind ≡ 1 → IsUnread item.bytes 0 c →
+  header : (c : Cause) → known ≡ None → item.kind ≡ line_table → IsUnread item.bytes 0 c →
       ItemRefuses q known fs item refused.UnreadLineHeader
-  block : (r : Refusal) → q.inlining ≡ true → fs ≡ [] → item.kind ≡ 2 →
+  block : (r : Refusal) → q.inlining ≡ true → fs ≡ [] → item.kind ≡ inline_info →
       FirstFault q.room (steps_of q.symbol.0 q.addr.0 item.bytes) r → ItemRefuses q known fs item r
 
 -- the first item that refuses: those before it are read, and give a row or none, and frames or none

@@ -9,10 +9,11 @@
 --   101    8                            size 0x20, name m
 --   109    9, 40, 14, 4                 an item that is passed over, an inline tree, a line table, type 0
 --
--- The tree is a root f, below it g, called in file 0, line 10, and below that h, called in file 2, line 20. The table has
--- one row, of file 1 and line 100.
+-- The tree is a root f, below it g, called in file 0, line 10, and below that h, called in file 2, line 20. The table
+-- has one row, of file 1 and line 100.
 -- Assumes nothing.
-use Rattle.std.specs.Prelude.{◌≡◌, ℕ, Bool, true, false, List, [], ◌∷◌, ◌++◌, Option, Some, None, Result, Ok, Err, replicate}
+use Rattle.std.specs.Prelude.{◌≡◌, ℕ, Bool, true, false, List, [], ◌∷◌, ◌++◌, Option, Some, None, Result, Ok, Err}
+use Rattle.std.specs.Prelude.{replicate}
 use Rattle.gsym_types.specs.declared.Frame.{Frame}
 use Rattle.gsym_types.specs.declared.Position.{Position}
 use Rattle.gsym_types.specs.declared.Refusal.{Refusal}

@@ -1,6 +1,7 @@
 //! The two readers of an entry's items (RULES, "Address data list"). The first fault in list order refuses, even if no
 //! row comes later.
-ghost use Rattle.std.specs.Prelude.{◌≡◌, ◌≤◌, true, false, [], min, length, OnOk};
+ghost use Rattle.std.specs.Prelude.{◌≡◌, ◌≤◌, true, false, [], length, OnOk};
+ghost use Rattle.gsym_inline.specs.Block.{room_of};
 ghost use Rattle.gsym_parser.specs.Items.{items_of};
 ghost use Rattle.gsym_resolver.specs.Known.{question, nothing, known_with, read_items};
 
@@ -9,7 +10,7 @@ use gsym_linetab::{LineTableRow, line_row};
 use gsym_parser::parse_address_data;
 use gsym_types::{Address, Refusal};
 
-// The types of the items that are read.
+// The types of the items that are read: the format's own numbers, and no enum, since any other is passed over.
 const LINE_TABLE: u32 = 1;
 
 const INLINE_INFO: u32 = 2;
@@ -45,10 +46,11 @@ pub(crate) fn row_and_frames(
     room: usize,
     frames: &mut Frames,
 ) -> Result<Option<LineTableRow>, Refusal>
-    requires { frames.old.items ≡ [] }
-    ensures fits { OnOk result (length frames.new.items ≤ min 64 room) }
+    // The caller has just made the list.
+    requires empty { frames.old.items ≡ [] }
+    ensures fits { OnOk result (length frames.new.items ≤ room_of room) }
     ensures known { known_with result frames.new.items
-        ≡ read_items (question symbol addr (min 64 room) true) (items_of bytes.now) nothing }
+        ≡ read_items (question symbol addr (room_of room) true) (items_of bytes.now) nothing }
 {
     let mut row = None;
     for item in parse_address_data(bytes) {

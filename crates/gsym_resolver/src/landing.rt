@@ -7,9 +7,9 @@ ghost use Rattle.gsym_resolver.specs.Lookup.{landed, landing_at};
 use gsym_parser::{GsymContext, covers};
 use gsym_types::{Address, Refusal, Text};
 
-// What the entry of an address says of its symbol: address, name, the bytes of its address data list, and size. The size
-// stands last: in front of the name it would leave a gap, and the name would be copied with the gap, in two parts that
-// are read as one. Nothing compares two.
+// What the entry of an address says of its symbol: address, name, the bytes of its address data list, and size. The
+// size stands last: in front of the name it would leave a gap, and the name would be copied with the gap, in two parts
+// that are read as one. Nothing compares two.
 #[derive(Clone, Copy, Debug)]
 pub(crate) struct Entry<'a> {
     pub symbol: Address,
@@ -18,8 +18,8 @@ pub(crate) struct Entry<'a> {
     pub size: u32,
 }
 
-// The entry that an address lands on; or the refusal 1, 5 or 6. Compiled into its callers, so that the context's numbers
-// need no memory where they stay the only ones that read it.
+// The entry that an address lands on; or the refusal 1, 5 or 6. Compiled into its callers, so that the context's
+// numbers need no memory where they stay the only ones that read it.
 #[inline(always)]
 #[tactic(auto, unfolding(crate::specs::Lookup::landing_at))]
 pub(crate) fn land<'a>(context: &GsymContext<'a>, addr: Address) -> Result<Entry<'a>, Refusal>

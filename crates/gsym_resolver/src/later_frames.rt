@@ -9,8 +9,8 @@ use arrayvec::ArrayVec;
 use gsym_parser::GsymContext;
 use gsym_types::{Frame, InlineFrame, Position, Refusal};
 
-// Makes the records of the later frames, in an empty list with room for them. Answers the position that the symbol gets:
-// the call site of the first of them, or the row's position where there is none. Refused with 6, 7 or 8.
+// Makes the records of the later frames, in an empty list with room for them. Answers the position that the symbol
+// gets: the call site of the first of them, or the row's position where there is none. Refused with 6, 7 or 8.
 #[inline(always)]
 #[tactic(auto, using(crate::proofs::LaterFrames::later_first, crate::proofs::LaterFrames::later_step, crate::proofs::LaterFrames::later_refused, crate::proofs::LaterFrames::later_end), unfolding(crate::specs::Lookup::later_frames, crate::specs::Lookup::calls_at, crate::specs::Lookup::moved_up))]
 pub(crate) fn push_later<const N: usize>(
@@ -19,7 +19,9 @@ pub(crate) fn push_later<const N: usize>(
     row: Position,
     records: &mut ArrayVec<Frame, N>,
 ) -> Result<Position, Refusal>
-    requires { (length later.now ≤ N) × (records.old.items ≡ []) }
+    // The frames and the list are two arguments, and no type of one says it; `lookup_by` has just cleared the list.
+    requires fits { length later.now ≤ N }
+    requires empty { records.old.items ≡ [] }
     ensures { placed_with result records.new.items ≡ later_frames (view context.now) row later.now }
 {
     let Some((first, behind)) = later.split_first() else {

@@ -26,8 +26,8 @@ pub fn marked_examples()
 {}
 
 /// A file of one symbol, written out, and what its lookups answer: at three addresses with all options, without each of
-/// them, with more and with less room than its frames need, past the symbol and below the base (RULES, "Putting the answer
-/// together").
+/// them, with more and with less room than its frames need, past the symbol and below the base (RULES, "Putting the
+/// answer together").
 pub fn whole_lookups()
     ensures { WholeLookups }
 {}
@@ -40,8 +40,8 @@ pub fn told_in_values(file: &[u8], addr: Address, options: Options, room: usize)
 {}
 
 /// A lookup is refused exactly where the condition of its refusal is met, the first in the order of RULES ("Refusal
-/// numbers"), and answers exactly what the data of the entry say that the address lands on; there is an answer exactly if
-/// no condition is met.
+/// numbers"), and answers exactly what the data of the entry say that the address lands on; there is an answer exactly
+/// if no condition is met.
 pub fn refused_or_answered()
     ensures refused { (file : List ℕ) (addr : Address) (options : Options) (room : ℕ) (r : Refusal)
         → (lookup_of file addr options room ≡ Err r) ↔ Met file addr options room r }
@@ -51,8 +51,8 @@ pub fn refused_or_answered()
         → IsOk (lookup_of file addr options room) ↔ ((r : Refusal) → Met file addr options room r → ⊥) }
 {}
 
-/// Without code info a refusal is one of 1 to 6, without inlining one of 1 to 9; from 10 on it is the first fault of one
-/// of the entry's inline blocks, the first that doesn't list none (RULES, "Refusal numbers" and "Calls").
+/// Without code info a refusal is one of 1 to 6, without inlining one of 1 to 9; from 10 on it is the first fault of
+/// one of the entry's inline blocks, the first that doesn't list none (RULES, "Refusal numbers" and "Calls").
 pub fn refusals_by_option()
     ensures bare { (file : List ℕ) (addr : Address) (options : Options) (room : ℕ) → options.code_info ≡ false
         → (r : Refusal) → lookup_of file addr options room ≡ Err r → number_of r ≤ 6 }
@@ -62,8 +62,8 @@ pub fn refusals_by_option()
         → lookup_of file addr options room ≡ Err r → RefusedByBlock file addr options room r }
 {}
 
-/// More room changes nothing but that there are too many frames (RULES, "Inline tree"): a lookup with less room is refused
-/// so, or is the lookup with more.
+/// More room changes nothing but that there are too many frames (RULES, "Inline tree"): a lookup with less room is
+/// refused so, or is the lookup with more.
 pub fn more_room()
     ensures { (room more : ℕ) → room ≤ more → (addr : Address) (options : Options) (file : List ℕ)
         → (lookup_of file addr options room ≡ Err TooManyFrames)

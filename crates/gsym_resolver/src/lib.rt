@@ -17,8 +17,10 @@ mod positions;
 ghost use Rattle.std.specs.Prelude.{◌≡◌, ◌≤◌, ◌↔◌, false, [], min, length, IfOk, IfErr, IsErrOf};
 ghost use Rattle.gsym_types.specs.declared.Refusal.{Refusal};
 ghost use Rattle.gsym_types.specs.Refusal.{number_of};
+ghost use Rattle.gsym_inline.specs.Block.{room_of};
 ghost use Rattle.gsym_parser.specs.View.{view};
-ghost use Rattle.gsym_resolver.specs.Lookup.{landing_of, answer_of, with_frames, with_code, lookup_of, looked_up, plain_options, all_options};
+ghost use Rattle.gsym_resolver.specs.Lookup.{landing_of, answer_of, with_frames, with_code, lookup_of, looked_up};
+ghost use Rattle.gsym_resolver.specs.Lookup.{plain_options, all_options};
 ghost use Rattle.gsym_resolver.specs.Met.{Met};
 ghost use Rattle.gsym_resolver.specs.Answered.{Answered};
 
@@ -57,9 +59,9 @@ pub fn lookup_plain(file: &[u8], addr: Address, code_info: bool) -> Result<Answe
 }
 
 /// The symbol of an address with all that is asked for. The later frames become records, in the place of what the list
-/// had. There is room for `room` frames, which count the block's first one, though that becomes no record, for as many as
-/// the list has places, and for 64 at most (RULES, "Inline tree"). A refusal, 1 to 14, and a lookup without both options,
-/// leaves the list empty.
+/// had. There is room for `room` frames, which count the block's first one, though that becomes no record, for as many
+/// as the list has places, and for 64 at most (RULES, "Inline tree"). A refusal, 1 to 14, and a lookup without both
+/// options, leaves the list empty.
 pub fn lookup_in<const N: usize>(
     file: &[u8],
     addr: Address,
@@ -68,13 +70,13 @@ pub fn lookup_in<const N: usize>(
     records: &mut ArrayVec<Frame, N>,
 ) -> Result<Answer, Refusal>
     // refused exactly with the refusal whose condition is the first met, in the order of RULES
-    ensures refused { (r : Refusal) → IsErrOf result r ↔ Met file.now addr options (min 64 (min N room)) r }
+    ensures refused { (r : Refusal) → IsErrOf result r ↔ Met file.now addr options (room_of (min N room)) r }
     // else answer and records say what the data of the entry say that the address lands on
     ensures answered { IfOk result (λ a.
-        Answered file.now addr options (min 64 (min N room)) (record { answer = a; frames = records.new.items })) }
+        Answered file.now addr options (room_of (min N room)) (record { answer = a; frames = records.new.items })) }
     ensures empty { IfErr result (λ _. records.new.items ≡ []) }
     ensures below { IfOk result (λ a. a.addr.0 ≤ addr.0) }
-    ensures exact { looked_up result records.new.items ≡ lookup_of file.now addr options (min 64 (min N room)) }
+    ensures exact { looked_up result records.new.items ≡ lookup_of file.now addr options (room_of (min N room)) }
 {
     lookup_by(file, addr, options, room, records)
 }
@@ -119,12 +121,13 @@ fn lookup_by<const N: usize>(
     records: &mut ArrayVec<Frame, N>,
 ) -> Result<Answer, Refusal>
     ensures empty { IfErr result (λ _. records.new.items ≡ []) }
-    ensures exact { looked_up result records.new.items ≡ lookup_of file.now addr options (min 64 (min N room)) }
+    ensures exact { looked_up result records.new.items ≡ lookup_of file.now addr options (room_of (min N room)) }
 {
     records.clear();
     if !(options.code_info && options.inlining) {
         return found_plain(file, addr, options.code_info);
     }
+    // By `match`: of `inspect_err` the proof doesn't know what its closure leaves in the list (DECISIONS, D38).
     match lookup_frames(file, addr, N.min(room), records) {
         Ok(answer) => Ok(answer),
         Err(refusal) => {
@@ -134,8 +137,8 @@ fn lookup_by<const N: usize>(
     }
 }
 
-// The symbol of an address with position and inlined calls, where there is room for `room` frames. The records go into an
-// empty list.
+// The symbol of an address with position and inlined calls, where there is room for `room` frames. The records go into
+// an empty list.
 #[tactic(auto, unfolding(crate::specs::Lookup::lookup_of, crate::specs::Lookup::with_code, crate::specs::Lookup::with_row))]
 fn lookup_frames<const N: usize>(
     file: &[u8],
@@ -143,8 +146,10 @@ fn lookup_frames<const N: usize>(
     room: usize,
     records: &mut ArrayVec<Frame, N>,
 ) -> Result<Answer, Refusal>
-    requires { (room ≤ N) × (records.old.items ≡ []) }
-    ensures { looked_up result records.new.items ≡ lookup_of file.now addr all_options (min 64 room) }
+    // The room and the list are two arguments, and no type of one says it; `lookup_by` has just cleared the list.
+    requires fits { room ≤ N }
+    requires empty { records.old.items ≡ [] }
+    ensures { looked_up result records.new.items ≡ lookup_of file.now addr all_options (room_of room) }
 {
     let context = GsymContext::parse_header(file)?;
     let entry = land(&context, addr)?;
@@ -167,7 +172,9 @@ fn with_frames<const N: usize>(
     frames: &[InlineFrame],
     records: &mut ArrayVec<Frame, N>,
 ) -> Result<Answer, Refusal>
-    requires { (length frames.now ≤ N) × (records.old.items ≡ []) }
+    // The frames and the list are two arguments, and no type of one says it; `lookup_by` has just cleared the list.
+    requires fits { length frames.now ≤ N }
+    requires empty { records.old.items ≡ [] }
     ensures { looked_up result records.new.items
         ≡ with_frames (view context.now) (landing_of entry.now) row frames.now }
 {

@@ -1,5 +1,5 @@
-//! Source positions: a row of the file table, its directory and its file name; and a frame with the position of its call
-//! (RULES, "Putting the answer together"). Directories and file names need not be UTF-8, names must.
+//! Source positions: a row of the file table, its directory and its file name; and a frame with the position of its
+//! call (RULES, "Putting the answer together"). Directories and file names need not be UTF-8, names must.
 ghost use Rattle.std.specs.Prelude.{◌≡◌};
 ghost use Rattle.gsym_parser.specs.View.{view};
 ghost use Rattle.gsym_resolver.specs.Lookup.{position_at, call_at};
@@ -7,8 +7,8 @@ ghost use Rattle.gsym_resolver.specs.Lookup.{position_at, call_at};
 use gsym_parser::GsymContext;
 use gsym_types::{FileIndex, Frame, InlineFrame, LineNumber, Position, Refusal};
 
-// The position of a file index and a line. Refused: an index that isn't below the file count is 7, a directory or a file
-// name that doesn't read is 8.
+// The position of a file index and a line. Refused: an index that isn't below the file count is 7, a directory or a
+// file name that doesn't read is 8.
 #[tactic(auto, unfolding(crate::specs::Lookup::position_at))]
 pub(crate) fn position_at(
     context: &GsymContext<'_>,

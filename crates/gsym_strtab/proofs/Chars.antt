@@ -1,6 +1,8 @@
 -- UTF-8 one character at a time: what the length of a character says, and each way out of judging one.
 -- Assumes nothing.
-use Rattle.std.proofs.Common.{ℕ, suc, ◌+◌, ◌-◌, ◌≤◌, ◌<◌, Bool, true, false, true≢false, List, [], ◌∷◌, ◌≡◌, refl, ap, sym, ◌∙◌, ⊎_elim, length, get_or, take, drop, length-drop, drop_of_length-le, drop-cons, drop-drop, length-take-le, arith, if◌then◌else◌}
+use Rattle.std.proofs.Common.{ℕ, suc, ◌+◌, ◌-◌, ◌≤◌, ◌<◌, Bool, true, false, true≢false, List, [], ◌∷◌, ◌≡◌, refl, ap}
+use Rattle.std.proofs.Common.{sym, ◌∙◌, ⊎_elim, length, get_or, take, drop, length-drop, drop_of_length-le, drop-cons}
+use Rattle.std.proofs.Common.{drop-drop, length-take-le, arith, if◌then◌else◌}
 use Rattle.gsym_strtab.specs.Utf8.{Range, range, within, tail, Start, starts, nowhere, begun}
 use Rattle.gsym_strtab.specs.Utf8.{followers, octets, utf8, sequence_len}
 use Rattle.gsym_strtab.specs.Steps.{second, met, sized, char_len}
@@ -8,7 +10,9 @@ use Rattle.std.proofs.lemmas.Bool.{cases_lt}
 use Rattle.gsym_strtab.proofs.Ranges.{in-range}
 use Rattle.gsym_strtab.proofs.Leading.{shape, followers-shape, followers-ascii, followers-two, sequence-len-le}
 
-chosen : (t m x y : Bool) → x ≡ (if m then y else false) → (if t then x else false) ≡ (if if t then m else false then y else false)
+chosen :
+    (t m x y : Bool) → x ≡ (if m then y else false) →
+    (if t then x else false) ≡ (if if t then m else false then y else false)
 chosen true m x y e = e
 chosen false m x y e = refl
 

@@ -1,6 +1,7 @@
 -- Counted bytes: a count goes by parts, and where all are counted a run goes on past them.
 -- Assumes nothing.
-use Rattle.std.proofs.Common.{ℕ, zero, suc, ◌+◌, ◌≤◌, ◌<◌, Bool, true, false, List, [], ◌∷◌, ◌≡◌, refl, ap, sym, ◌∙◌, length, get_or, drop, drop-cons, drop-drop, zero-add, suc-add, arith, if◌then◌else◌}
+use Rattle.std.proofs.Common.{ℕ, zero, suc, ◌+◌, ◌≤◌, ◌<◌, Bool, true, false, List, [], ◌∷◌, ◌≡◌, refl, ap, sym, ◌∙◌}
+use Rattle.std.proofs.Common.{length, get_or, drop, drop-cons, drop-drop, zero-add, suc-add, arith, if◌then◌else◌}
 use Rattle.gsym_strtab.specs.Utf8.{Range, within}
 use Rattle.gsym_strtab.specs.Steps.{run_len, count_in}
 use Rattle.gsym_strtab.proofs.Runs.{Skipped}
@@ -89,7 +90,8 @@ module _ (r : Range) where
     eight_counted x y X Y = halves-counted 4 x y X Y
 
     pub sixteen_counted :
-        (x y : ℕ) → x ≡ count_in r 8 (drop at s) → y ≡ count_in r 8 (drop (at + 8) s) → x + y ≡ count_in r 16 (drop at s)
+        (x y : ℕ) → x ≡ count_in r 8 (drop at s) → y ≡ count_in r 8 (drop (at + 8) s) →
+        x + y ≡ count_in r 16 (drop at s)
     sixteen_counted x y X Y = halves-counted 8 x y X Y
 
 -- all of them are passed

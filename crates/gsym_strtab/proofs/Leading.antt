@@ -1,6 +1,7 @@
 -- What a first byte says of its sequence: the table of RULES ("Strings") and the grammar of RFC 3629 are one.
 -- Assumes nothing.
-use Rattle.std.proofs.Common.{ℕ, zero, suc, ◌≤◌, ◌<◌, Bool, true, false, List, [], ◌∷◌, ◌≡◌, refl, ap, ⊎_elim, T, eqb, eqb→eq, leb, leb→le, take, replicate, arith, le-leb, eq-eqb, if◌then◌else◌}
+use Rattle.std.proofs.Common.{ℕ, zero, suc, ◌≤◌, ◌<◌, Bool, true, false, List, [], ◌∷◌, ◌≡◌, refl, ap, ⊎_elim, T, eqb}
+use Rattle.std.proofs.Common.{eqb→eq, leb, leb→le, take, replicate, arith, le-leb, eq-eqb, if◌then◌else◌}
 use Rattle.gsym_strtab.specs.Utf8.{Range, range, tail, Start, starts, nowhere, followers, sequence_len, size_of}
 use Rattle.gsym_strtab.specs.Steps.{second}
 use Rattle.std.proofs.lemmas.Bool.{cases_lt}

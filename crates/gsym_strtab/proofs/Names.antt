@@ -1,7 +1,9 @@
 -- A name read in one pass: the zero byte is looked for and UTF-8 judged at the same time, since no character but the
 -- zero byte itself has a zero byte in it.
 -- Assumes nothing.
-use Rattle.std.proofs.Common.{ℕ, suc, ◌+◌, ◌-◌, ◌≤◌, ◌<◌, Bool, true, false, not, List, [], ◌∷◌, ◌≡◌, refl, ap, sym, ◌∙◌, T, eqb, length, get_or, take, drop, drop_of_length-le, drop-cons, drop-drop, arith, eqb-true, Option, Some, None, if◌then◌else◌}
+use Rattle.std.proofs.Common.{ℕ, suc, ◌+◌, ◌-◌, ◌≤◌, ◌<◌, Bool, true, false, not, List, [], ◌∷◌, ◌≡◌, refl, ap, sym}
+use Rattle.std.proofs.Common.{◌∙◌, T, eqb, length, get_or, take, drop, drop_of_length-le, drop-cons, drop-drop, arith}
+use Rattle.std.proofs.Common.{eqb-true, Option, Some, None, if◌then◌else◌}
 use borrow.Author.Tests.{eqb-false}
 use Rattle.gsym_reads.specs.Maybe.{◌>>=◌, ◌>>◌, need}
 use Rattle.gsym_strtab.specs.Utf8.{Range, range, within, Start, starts, nowhere, characters, after}
@@ -12,7 +14,8 @@ use Rattle.gsym_strtab.proofs.Ranges.{in-range}
 use Rattle.gsym_strtab.proofs.Table.{both, both_left, both_right}
 use Rattle.gsym_strtab.proofs.Leading.{followers-ascii}
 use Rattle.gsym_strtab.proofs.Chars.{char-at}
-use Rattle.gsym_strtab.proofs.Passing.{longer, text-begin, text-more, before_zero-nil, before_zero-zero, longer-none, longer-longer}
+use Rattle.gsym_strtab.proofs.Passing.{longer, text-begin, text-more, before_zero-nil, before_zero-zero, longer-none}
+use Rattle.gsym_strtab.proofs.Passing.{longer-longer}
 
 -- no range has the zero byte
 high : List Range → Bool
@@ -65,7 +68,8 @@ module _ (b : ℕ) (bs : List ℕ) (d : b ≡ 0 → ⊥) where
   one_more m = let e : 1 + m ≡ suc m = omega arith in ap (λ k. take k (b ∷ bs)) e
 
   owed-of : (t : Bool) (x : Bool) (m : ℕ) →
-      (if if t then x else false then Some (1 + m) else None) ≡ (if t then longer 1 (if x then Some m else None) else None)
+      (if if t then x else false then Some (1 + m) else None)
+      ≡ (if t then longer 1 (if x then Some m else None) else None)
   owed-of true true m = refl
   owed-of true false m = refl
   owed-of false x m = refl
@@ -109,13 +113,15 @@ named-met (r ∷ rs) (b ∷ bs) h = go (named-met rs bs (both_right (not (within
     rest = named [] (drop (length rs) bs)
 
     step : (t m : Bool) (n : ℕ) (l : Option ℕ) →
-        (if t then longer 1 (if m then longer n l else None) else None) ≡ (if if t then m else false then longer (suc n) l else None)
+        (if t then longer 1 (if m then longer n l else None) else None)
+        ≡ (if if t then m else false then longer (suc n) l else None)
     step true true n l = let e : 1 + n ≡ suc n = omega arith in longer-longer 1 n l ∙ ap (λ k. longer k l) e
     step true false n l = refl
     step false m n l = refl
 
     go : named rs bs ≡ (if met rs bs then longer (length rs) rest else None) → (t : Bool) → eqb b 0 ≡ t →
-        named (r ∷ rs) (b ∷ bs) ≡ (if if within r b then met rs bs else false then longer (suc (length rs)) rest else None)
+        named (r ∷ rs) (b ∷ bs)
+        ≡ (if if within r b then met rs bs else false then longer (suc (length rs)) rest else None)
     go i true q =
         let e : b ≡ 0 = eqb-true b 0 q in
         let z : within r 0 ≡ false = not-zero (within r 0) (both_left (not (within r 0)) (high rs) h) in
@@ -161,7 +167,9 @@ name-byte b bs w =
 
 -- by the character's length
 module _ (bs : List ℕ) where
-  cut_off : (t : Bool) (k : ℕ) (l : Option ℕ) → (if t then suc k else 0) ≡ 0 → longer 1 (if t then longer k l else None) ≡ None
+  cut_off :
+      (t : Bool) (k : ℕ) (l : Option ℕ) → (if t then suc k else 0) ≡ 0 →
+      longer 1 (if t then longer k l else None) ≡ None
   cut_off true k l e = absurd (omega arith)
   cut_off false k l e = refl
 

@@ -1,6 +1,8 @@
 -- Reading a string byte by byte: what was passed and what is left, and each way out of the scan.
 -- Assumes nothing.
-use Rattle.std.proofs.Common.{ℕ, ◌+◌, suc, ◌-◌, ◌≤◌, ◌<◌, List, [], ◌∷◌, ◌≡◌, refl, ap, sym, ◌∙◌, ⊎_elim, length, ◌==◌, get_or, drop, drop_of_length-le, drop-cons, arith, lt-ltb, le-ltb, eq-eqb, ne_eqb, Option, Some, None}
+use Rattle.std.proofs.Common.{ℕ, ◌+◌, suc, ◌-◌, ◌≤◌, ◌<◌, List, [], ◌∷◌, ◌≡◌, refl, ap, sym, ◌∙◌, ⊎_elim, length, ◌==◌}
+use Rattle.std.proofs.Common.{get_or, drop, drop_of_length-le, drop-cons, arith, lt-ltb, le-ltb, eq-eqb, ne_eqb, Option}
+use Rattle.std.proofs.Common.{Some, None}
 use Rattle.gsym_strtab.specs.Strings.{before_zero, text_in}
 use Rattle.std.proofs.lemmas.Bool.{cases_lt}
 use Rattle.std.specs.List.{position_or_len}
@@ -64,8 +66,10 @@ unfolding before_zero
 text-more b bs d =
     let n = position_or_len (λ b. b == 0) bs in
     ⊎_elim
-    (λ (l : n < length bs). let m : 1 + n < suc (length bs) = omega arith in rw (ne_eqb _ _ d, lt-ltb _ _ m, lt-ltb _ _ l))
-    (λ (l : length bs ≤ n). let m : suc (length bs) ≤ 1 + n = omega arith in rw (ne_eqb _ _ d, le-ltb _ _ m, le-ltb _ _ l))
+    (λ (l : n < length bs). let m : 1 + n < suc (length bs) = omega arith in
+    rw (ne_eqb _ _ d, lt-ltb _ _ m, lt-ltb _ _ l))
+    (λ (l : length bs ≤ n). let m : suc (length bs) ≤ 1 + n = omega arith in
+    rw (ne_eqb _ _ d, le-ltb _ _ m, le-ltb _ _ l))
     (cases_lt n (length bs))
 
 pub text-begin : (s : List ℕ) (at : ℕ) → text_in s at ≡ before_zero (drop at s)

@@ -1,6 +1,8 @@
 -- Runs of bytes in a range: each turn and way out of passing one, and what it passes of a string, a name and UTF-8.
 -- Assumes nothing.
-use Rattle.std.proofs.Common.{ℕ, suc, ◌+◌, ◌-◌, ◌≤◌, ◌<◌, Bool, true, false, List, [], ◌∷◌, ◌≡◌, refl, ap, sym, ◌∙◌, length, get_or, drop, length-drop, drop_of_length-le, drop-cons, drop-drop, get_or-drop, arith, Option, Some, None, if◌then◌else◌}
+use Rattle.std.proofs.Common.{ℕ, suc, ◌+◌, ◌-◌, ◌≤◌, ◌<◌, Bool, true, false, List, [], ◌∷◌, ◌≡◌, refl, ap, sym, ◌∙◌}
+use Rattle.std.proofs.Common.{length, get_or, drop, length-drop, drop_of_length-le, drop-cons, drop-drop, get_or-drop}
+use Rattle.std.proofs.Common.{arith, Option, Some, None, if◌then◌else◌}
 use Rattle.gsym_strtab.specs.Utf8.{Range, range, within, utf8}
 use Rattle.gsym_strtab.specs.Steps.{run_len}
 use Rattle.gsym_strtab.specs.Strings.{before_zero, text_in}
@@ -42,7 +44,8 @@ module _ {r : Range} {s : List ℕ} {at i : ℕ} (h : Skipped r s at i) where
 pub beyond_ascii : (s : List ℕ) (i : ℕ) → i < length s → 0x80 ≤ get_or s i 0 → i ≡ i + run_len (range 1 0x7f) (drop i s)
 unfolding run_len
 beyond_ascii s i l b =
-    let e : run_len (range 1 0x7f) (drop i s) ≡ 0 = rw (drop-cons s i 0 l, over-range 1 0x7f (get_or s i 0) (omega arith)) in
+    let e : run_len (range 1 0x7f) (drop i s) ≡ 0 =
+    rw (drop-cons s i 0 l, over-range 1 0x7f (get_or s i 0) (omega arith)) in
     omega arith
 
 -- ------------------------------------------------------------------------------------------------
@@ -90,7 +93,8 @@ module _ (r : Range) (read : List ℕ → Option ℕ)
   run-longer (b ∷ bs) = go (run-longer bs) (within r b) refl
     where
       go : read bs ≡ longer (run_len r bs) (read (drop (run_len r bs) bs)) → (t : Bool) → within r b ≡ t →
-          read (b ∷ bs) ≡ longer (if t then suc (run_len r bs) else 0) (read (drop (if t then suc (run_len r bs) else 0) (b ∷ bs)))
+          read (b ∷ bs) ≡ longer (if t then suc (run_len r bs) else 0)
+          (read (drop (if t then suc (run_len r bs) else 0) (b ∷ bs)))
       go i true q =
           let e : 1 + run_len r bs ≡ suc (run_len r bs) = omega arith in
           h b bs q ∙ ap (longer 1) i ∙ longer-longer 1 (run_len r bs) (read (drop (run_len r bs) bs))

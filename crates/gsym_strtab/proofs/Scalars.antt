@@ -1,6 +1,8 @@
 -- UTF-8 by the grammar is UTF-8 as std has it: the bytes of some Unicode scalar values, one after another.
 -- Assumes nothing.
-use Rattle.std.proofs.Common.{◌≡◌, ℕ, zero, suc, ◌+◌, ◌-◌, ◌*◌, ◌/◌, ◌<◌, ◌≤◌, ◌⊎◌, ◌↔◌, Bool, true, false, List, [], ◌∷◌, ◌++◌, length, refl, sym, ap, ◌∙◌, subst, inl, inr, arith, lt-ltb, le-ltb, le-leb, if◌then◌else◌}
+use Rattle.std.proofs.Common.{◌≡◌, ℕ, zero, suc, ◌+◌, ◌-◌, ◌*◌, ◌/◌, ◌<◌, ◌≤◌, ◌⊎◌, ◌↔◌, Bool, true, false, List, []}
+use Rattle.std.proofs.Common.{◌∷◌, ◌++◌, length, refl, sym, ap, ◌∙◌, subst, inl, inr, arith, lt-ltb, le-ltb, le-leb}
+use Rattle.std.proofs.Common.{if◌then◌else◌}
 use Rattle.std.proofs.lemmas.Bool.{cases_lt, and_parts}
 use Rattle.std.proofs.lemmas.Str.{encode_ascii, IsUtf8-nil}
 use Rattle.std.proofs.lemmas.Bool.Decides.{nat_tests}
@@ -101,19 +103,24 @@ module _ (x : ℕ) (bs : List ℕ) where
 module _ (c : ℕ) (bs : List ℕ) where
   two-bytes : 128 ≤ c → c < 2048 → utf8 (encode c ++ bs) ≡ utf8 bs
   two-bytes l h =
-      rw (two c l h) (two-read (192 + c / 64) bs (next c) (lead_c2 (192 + c / 64) (omega arith) (omega arith)) (omega arith))
+      rw (two c l h)
+      (two-read (192 + c / 64) bs (next c) (lead_c2 (192 + c / 64) (omega arith) (omega arith)) (omega arith))
 
   three-bytes : 2048 ≤ c → c < 65536 → (c < 55296) ⊎ (57344 ≤ c) → utf8 (encode c ++ bs) ≡ utf8 bs
   three-bytes l h s =
       let x = 224 + c / 4096 in
       rw (three c l h)
       (elim (cases_lt c 4096) [
-        | inl a ↦ three-read x bs 0xa0 0xbf (next (c / 64)) (next c) (lead_e0 x (omega arith) (omega arith)) (omega arith) (omega arith)
+        | inl a ↦ three-read x bs 0xa0 0xbf (next (c / 64)) (next c) (lead_e0 x (omega arith) (omega arith))
+            (omega arith) (omega arith)
         | inr a ↦ elim (cases_lt c 53248) [
-          | inl b ↦ three-read x bs 0x80 0xbf (next (c / 64)) (next c) (lead_e1 x (omega arith) (omega arith)) (omega arith) (omega arith)
+          | inl b ↦ three-read x bs 0x80 0xbf (next (c / 64)) (next c) (lead_e1 x (omega arith) (omega arith))
+              (omega arith) (omega arith)
           | inr b ↦ elim s [
-            | inl d ↦ three-read x bs 0x80 0x9f (next (c / 64)) (next c) (lead_ed x (omega arith) (omega arith)) (omega arith) (omega arith)
-            | inr d ↦ three-read x bs 0x80 0xbf (next (c / 64)) (next c) (lead_ee x (omega arith) (omega arith)) (omega arith) (omega arith)
+            | inl d ↦ three-read x bs 0x80 0x9f (next (c / 64)) (next c) (lead_ed x (omega arith) (omega arith))
+                (omega arith) (omega arith)
+            | inr d ↦ three-read x bs 0x80 0xbf (next (c / 64)) (next c) (lead_ee x (omega arith) (omega arith))
+                (omega arith) (omega arith)
           ]
         ]
       ])
@@ -123,10 +130,13 @@ module _ (c : ℕ) (bs : List ℕ) where
       let x = 240 + c / 262144 in
       rw (four c l)
       (elim (cases_lt c 262144) [
-        | inl a ↦ four-read x bs 0x90 0xbf (next (c / 4096)) (next (c / 64)) (next c) (lead_f0 x (omega arith) (omega arith)) (omega arith) (omega arith) (omega arith)
+        | inl a ↦ four-read x bs 0x90 0xbf (next (c / 4096)) (next (c / 64)) (next c)
+            (lead_f0 x (omega arith) (omega arith)) (omega arith) (omega arith) (omega arith)
         | inr a ↦ elim (cases_lt c 1048576) [
-          | inl b ↦ four-read x bs 0x80 0xbf (next (c / 4096)) (next (c / 64)) (next c) (lead_f1 x (omega arith) (omega arith)) (omega arith) (omega arith) (omega arith)
-          | inr b ↦ four-read x bs 0x80 0x8f (next (c / 4096)) (next (c / 64)) (next c) (lead_f4 x (omega arith) (omega arith)) (omega arith) (omega arith) (omega arith)
+          | inl b ↦ four-read x bs 0x80 0xbf (next (c / 4096)) (next (c / 64)) (next c)
+              (lead_f1 x (omega arith) (omega arith)) (omega arith) (omega arith) (omega arith)
+          | inr b ↦ four-read x bs 0x80 0x8f (next (c / 4096)) (next (c / 64)) (next c)
+              (lead_f4 x (omega arith) (omega arith)) (omega arith) (omega arith) (omega arith)
         ]
       ])
 
@@ -198,7 +208,8 @@ cons_2 x y bs h f =
     cons c (x ∷ y ∷ []) bs (low_scalar c (omega arith)) (two c (omega arith) (omega arith) ∙ (λ k. p k ∷ q k ∷ []))
 
 cons_3 : (x y z : ℕ) (bs : List ℕ) → 0xe0 ≤ x → (0x80 ≤ y) × (y ≤ 0xbf) → (0x80 ≤ z) × (z ≤ 0xbf) →
-    (2048 ≤ value_3 x y z) × (value_3 x y z < 65536) × (scalar (value_3 x y z) ≡ true) → IsUtf8 bs → IsUtf8 (x ∷ y ∷ z ∷ bs)
+    (2048 ≤ value_3 x y z) × (value_3 x y z < 65536) × (scalar (value_3 x y z) ≡ true) → IsUtf8 bs →
+    IsUtf8 (x ∷ y ∷ z ∷ bs)
 unfolding value_3
 cons_3 x y z bs h f g v =
     let c = value_3 x y z in
@@ -222,7 +233,8 @@ cons_4 x y z w bs h f g j v =
     (four c v.0 ∙ (λ k. p k ∷ q k ∷ r k ∷ t k ∷ []))
 
 module _ (n : ℕ) (rest : (bs : List ℕ) → length bs ≤ n → utf8 bs ≡ true → IsUtf8 bs) where
-  made_2 : (x : ℕ) (bs : List ℕ) → length bs ≤ n → (0xc2 ≤ x) × (x ≤ 0xdf) → octets (tail ∷ []) bs ≡ true → IsUtf8 (x ∷ bs)
+  made_2 :
+      (x : ℕ) (bs : List ℕ) → length bs ≤ n → (0xc2 ≤ x) × (x ≤ 0xdf) → octets (tail ∷ []) bs ≡ true → IsUtf8 (x ∷ bs)
   made_2 x bs l h e =
       let o = owed 0x80 0xbf [] bs e in
       rw o.2 (cons_2 x o.0 o.1 h (o.3, o.4) (rest o.1 (omega (arith, ap length o.2)) (done o.1 o.5)))
@@ -257,7 +269,8 @@ module _ (n : ℕ) (rest : (bs : List ℕ) → length bs ≤ n → utf8 bs ≡ t
   one-made x bs l e =
       let low : (c : ℕ) → c < 55296 → scalar c ≡ true = low_scalar in
       elim (cases_lt x 0x80) [
-        | inl a ↦ cons x (x ∷ []) bs (low_scalar x (omega arith)) (encode_ascii x a) (rest bs l (done bs (begins x bs [] e (followers-ascii x (omega arith)))))
+        | inl a ↦ cons x (x ∷ []) bs (low_scalar x (omega arith)) (encode_ascii x a)
+            (rest bs l (done bs (begins x bs [] e (followers-ascii x (omega arith)))))
         | inr a ↦ elim (cases_lt x 0xc2) [
           | inl b ↦ absurd (begins-nowhere x bs e (lead_none x (a, b)))
           | inr b ↦ elim (cases_lt x 0xe0) [

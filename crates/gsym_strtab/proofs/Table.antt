@@ -1,6 +1,7 @@
 -- A rule of a table, proved at all of its entries by one test that antt computes, one entry after the other.
 -- Assumes nothing.
-use Rattle.std.proofs.Common.{◌∙◌, subst, sym, Bool, true, false, List, [], ◌∷◌, ℕ, zero, suc, ◌+◌, ◌<◌, add-zero, zero-add, add-suc, suc-add, le_of_suc-le-suc, not-suc-le-zero, T, length, get_or}
+use Rattle.std.proofs.Common.{◌∙◌, subst, sym, Bool, true, false, List, [], ◌∷◌, ℕ, zero, suc, ◌+◌, ◌<◌, add-zero}
+use Rattle.std.proofs.Common.{zero-add, add-suc, suc-add, le_of_suc-le-suc, not-suc-le-zero, T, length, get_or}
 
 abbrev pub both : Bool → Bool → Bool
 both true b = b

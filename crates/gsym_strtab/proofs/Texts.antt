@@ -1,7 +1,9 @@
 -- Laws of the strings that read, for whoever calls: a string lies inside the file with a zero byte after it and none in
 -- it, a name is a string that is UTF-8, and the answer is that of the table's own bytes.
 -- Assumes nothing.
-use Rattle.std.proofs.Common.{ℕ, ◌+◌, ◌≤◌, ◌<◌, true, List, [], ◌≡◌, ◌≢◌, All, refl, ap, sym, ◌∙◌, ⊎_elim, ◌==◌, length, get_or, take, drop, drop_of_length-le, length-drop, length-take-le, get_or-take, get_or-drop, ext_get_or, arith, lt-ltb, le-ltb, le-leb, eqb-true, Option, Some, None}
+use Rattle.std.proofs.Common.{ℕ, ◌+◌, ◌≤◌, ◌<◌, true, List, [], ◌≡◌, ◌≢◌, All, refl, ap, sym, ◌∙◌, ⊎_elim, ◌==◌, length}
+use Rattle.std.proofs.Common.{get_or, take, drop, drop_of_length-le, length-drop, length-take-le, get_or-take}
+use Rattle.std.proofs.Common.{get_or-drop, ext_get_or, arith, lt-ltb, le-ltb, le-leb, eqb-true, Option, Some, None}
 use borrow.Author.Tests.{lt-leb, eqb-false}
 use Rattle.gsym_reads.proofs.Maybe.{bind_some, need_some}
 use Rattle.std.proofs.lemmas.List.Quantifiers.{position-Some}
@@ -10,7 +12,8 @@ use Rattle.std.specs.List.{position_or_len}
 use Rattle.gsym_types.specs.declared.StrOffset.{StrOffset}
 use Rattle.gsym_types.specs.declared.Text.{Text}
 use Rattle.gsym_strtab.specs.Utf8.{utf8}
-use Rattle.gsym_strtab.specs.Strings.{part_of, before_zero, text_in, name_in, placed, in_table, bytes_from, EndsBeforeZero}
+use Rattle.gsym_strtab.specs.Strings.{part_of, before_zero, text_in, name_in, placed, in_table, bytes_from}
+use Rattle.gsym_strtab.specs.Strings.{EndsBeforeZero}
 use Rattle.gsym_strtab.specs.Strings.{text_at, name_at}
 use Rattle.gsym_strtab.specs.declared.StrTable.{StrTable}
 use Rattle.std.proofs.lemmas.Bool.{cases_lt}
@@ -238,7 +241,9 @@ nothing-before bs e k d l z =
     (cases_lt n (length bs))
 
 module _ (file : List ℕ) (table : StrTable) (offset : StrOffset) where
-  part-fits : table.place + table.size ≤ length file → part_of file table.place table.size ≡ take table.size (drop table.place file)
+  part-fits :
+      table.place + table.size ≤ length file →
+      part_of file table.place table.size ≡ take table.size (drop table.place file)
   unfolding part_of
   part-fits l = rw (le-leb _ _ l)
 
@@ -263,7 +268,9 @@ module _ (file : List ℕ) (table : StrTable) (offset : StrOffset) where
       rw (no-part m, z) (λ k d h. absurd (omega arith)))
       (λ (l : table.place + table.size ≤ length file).
       let s : List ℕ = take table.size (drop table.place file) in
-      rw (part-fits l) (nothing-before (drop offset.0 s) (sym (text-begin s offset.0) ∙ none-placed (text_in s offset.0) (simp (le-leb _ _ l) at e))))
+      rw (part-fits l)
+      (nothing-before (drop offset.0 s)
+      (sym (text-begin s offset.0) ∙ none-placed (text_in s offset.0) (simp (le-leb _ _ l) at e))))
       (cases_lt (length file) (table.place + table.size))
     where
       none-placed : (r : Option ℕ) → placed (table.place + offset.0) r ≡ None → r ≡ None

@@ -1,7 +1,8 @@
 -- The strings of the string table (RULES, "Strings"). The table's bytes, in file order: strings one after another, each
 -- ended by a zero byte. A string is asked for by where it starts, counted from the table's start.
 -- Assumes nothing.
-use Rattle.std.specs.Prelude.{◌≡◌, ◌≢◌, ℕ, ◌+◌, ◌<◌, List, [], All, Option, Some, length, take, drop, position, slice_index, ◌==◌, nat_lt, nat_le, if◌then◌else◌}
+use Rattle.std.specs.Prelude.{◌≡◌, ◌≢◌, ℕ, ◌+◌, ◌<◌, List, [], All, Option, Some, length, take, drop, position}
+use Rattle.std.specs.Prelude.{slice_index, ◌==◌, nat_lt, nat_le, if◌then◌else◌}
 use Rattle.std.specs.Option.{option_map}
 use Rattle.std.specs.Borrow.{Bor}
 use Rattle.gsym_reads.specs.Maybe.{◌>>=◌, ◌>>◌, need}

@@ -2,8 +2,8 @@
 ghost use Rattle.std.specs.Prelude.{◌≡◌};
 ghost use Rattle.gsym_strtab.specs.Utf8.{sequence_len};
 
-// 1 for 00 to 7f, 2 for c2 to df, 3 for e0 to ef, 4 for f0 to f4, else 0; Rust's library has the same. The first and the
-// last entry of each run are marked.
+// 1 for 00 to 7f, 2 for c2 to df, 3 for e0 to ef, 4 for f0 to f4, else 0; Rust's library has the same. The first and
+// the last entry of each run are marked.
 const LENGTHS: [u8; 256] = [
     1, // 00
     1, 1, 1, 1, 1, 1, 1, 1, 1, 1, 1, 1, 1, 1, 1, 1, 1, 1, 1, 1, 1, 1, 1, 1, 1, 1, 1, 1, 1, 1, 1, 1,
@@ -29,5 +29,5 @@ const LENGTHS: [u8; 256] = [
 pub fn sequence_len(b: u8) -> u8
     ensures { result ≡ sequence_len b }
 {
-    LENGTHS[b as usize]
+    LENGTHS[usize::from(b)]
 }

@@ -7,8 +7,10 @@ mod lengths;
 mod scan;
 mod utf8;
 
-ghost use Rattle.std.specs.Prelude.{◌≡◌, ◌≢◌, ◌+◌, ◌<◌, ◌≤◌, ◌↔◌, [], length, take, drop, All, IfSome, IsSome, IsNone, IsSomeAnd, IsUtf8};
-ghost use Rattle.gsym_strtab.specs.Strings.{part_of, text_in, name_in, text_at, name_at, bytes_from, EndsBeforeZero, StartsAt};
+ghost use Rattle.std.specs.Prelude.{◌≡◌, ◌≢◌, ◌+◌, ◌<◌, ◌≤◌, ◌↔◌, [], length, take, drop, All, IfSome, IsSome, IsNone};
+ghost use Rattle.std.specs.Prelude.{IsSomeAnd, IsUtf8};
+ghost use Rattle.gsym_strtab.specs.Strings.{part_of, text_in, name_in, text_at, name_at, bytes_from, EndsBeforeZero};
+ghost use Rattle.gsym_strtab.specs.Strings.{StartsAt};
 
 use gsym_types::{StrOffset, Text};
 pub use laws::utf8_bounds;
@@ -44,6 +46,8 @@ pub fn text_at(file: &[u8], table: StrTable, offset: StrOffset) -> Option<Text>
 
 /// The name at an offset of the string table: a string that is UTF-8 (RULES, "Strings"). `None` where `text_at` has
 /// none, and where the string is not UTF-8.
+// Beside `text_at`, with another reader of the table's bytes: one function over both would take it as a closure.
+// That was not tried.
 pub fn name_at(file: &[u8], table: StrTable, offset: StrOffset) -> Option<Text>
     ensures exact { result ≡ name_at file.now table offset }
     ensures string { IfSome result (λ t. text_at file.now table offset ≡ Some t) }
@@ -108,7 +112,8 @@ fn text_in(strings: &[u8], at: usize) -> Option<usize>
 }
 
 // The length of the name at an offset of the table's bytes. One pass looks for the zero byte and judges UTF-8: no
-// character but the zero byte itself has a zero byte in it.
+// character but the zero byte itself has a zero byte in it. `is_utf8` takes the same turns, but there a zero byte is a
+// character and the end no fault: one function over both would ask a flag at each.
 fn name_in(strings: &[u8], at: usize) -> Option<usize>
     ensures { result ≡ name_in strings.now at }
 {

@@ -3,8 +3,8 @@ ghost use Rattle.std.specs.Prelude.{◌≡◌, ◌+◌, ◌<◌, ◌≤◌, leng
 ghost use Rattle.gsym_strtab.specs.Utf8.{range, within};
 ghost use Rattle.gsym_strtab.specs.Steps.{run_len, count_in};
 
-// The first place from `at` on whose byte is not one from 1 to 7f, or the end. Characters beyond ASCII mostly stand in a
-// row, so sixteen bytes at once are not tried where one starts. Its callers ask inside the slice.
+// The first place from `at` on whose byte is not one from 1 to 7f, or the end. Characters beyond ASCII mostly stand in
+// a row, so sixteen bytes at once are not tried where one starts (DECISIONS, D33). Its callers ask inside the slice.
 #[tactic(auto, using(crate::proofs::Runs::beyond_ascii, crate::proofs::Counting::skip_counted))]
 pub(crate) fn ascii_end(s: &[u8], at: usize) -> usize
     requires { at < length s.now }
@@ -14,6 +14,7 @@ pub(crate) fn ascii_end(s: &[u8], at: usize) -> usize
         return at;
     }
     let mut i = at;
+    // By hand: a turn takes sixteen bytes, which one comparison judges (`sixteen_in`), and is no element of a slice.
     while 16 <= s.len() - i && sixteen_in(s, i) == 16 {
         i += 16;
     }
@@ -59,11 +60,11 @@ fn four_in(s: &[u8], at: usize) -> u8
 fn one_in(b: u8) -> u8
     ensures { (result ≡ (if within (range 1 0x7f) b then 1 else 0)) × (result ≤ 1) }
 {
-    is_between(1, 0x7f, b) as u8
+    u8::from(is_between(1, 0x7f, b))
 }
 
-// The first place from `at` on whose byte is not one from 1 to `top`, or the end. Its callers start inside the slice. Four
-// bytes a turn, for speed (DECISIONS, D33).
+// The first place from `at` on whose byte is not one from 1 to `top`, or the end. Its callers start inside the slice.
+// Four bytes a turn, for speed (DECISIONS, D33).
 pub(crate) fn run_end(s: &[u8], at: usize, top: u8) -> usize
     requires { at ≤ length s.now }
     ensures { result ≡ at + run_len (range 1 top) (drop at s.now) }

@@ -26,8 +26,8 @@ pub fn is_utf8(s: &[u8]) -> bool
     true
 }
 
-// The length of the character at `at`, or `None` where the bytes there are none: no sequence starts so, it is cut off by
-// the end, or a following byte is wrong. Its callers ask inside the slice.
+// The length of the character at `at`, or `None` where the bytes there are none: no sequence starts so, it is cut off
+// by the end, or a following byte is wrong. Its callers ask inside the slice.
 #[inline(always)]
 pub(crate) fn char_len(s: &[u8], at: usize) -> Option<usize>
     requires { at < length s.now }
@@ -35,7 +35,7 @@ pub(crate) fn char_len(s: &[u8], at: usize) -> Option<usize>
     ensures none { IfNone result (0 ≡ char_len (drop at s.now)) }
 {
     let first = s[at];
-    let n = sequence_len(first) as usize;
+    let n = usize::from(sequence_len(first));
     // Inside this test: asked first, 0 cost names of two-byte letters 1.06 of the instructions.
     if n < 2 {
         if n == 0 {

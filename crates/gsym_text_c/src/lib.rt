@@ -1,20 +1,23 @@
 //! What tools print of an answer, for C hosts: each function hands its arguments on to `gsym_printed`. Every text goes
-//! into bytes that the caller lends: its front, as far as it fits, and the answer says how many bytes it has. An object of
-//! its own in libgsym.a, which a host that prints nothing doesn't link.
+//! into bytes that the caller lends: its front, as far as it fits, and the answer says how many bytes it has. An object
+//! of its own in libgsym.a, which a host that prints nothing doesn't link.
 #![tactic(auto)]
+
+mod laws;
 
 ghost use Rattle.std.specs.Prelude.{◌≡◌, ◌↔◌, ◌≤◌, ◌<◌, ◌+◌, ◌∷◌, [], length, take, drop};
 ghost use Rattle.gsym_types.specs.declared.Refusal.{Refusal};
 ghost use Rattle.gsym_types.specs.Refusal.{number_of};
 ghost use Rattle.gsym_printed.specs.declared.view.Form.TheVariants.{Lines};
 ghost use Rattle.gsym_printed.specs.Answers.{answer_text, outcome_of, IsWritten};
-ghost use Rattle.gsym_printed.specs.Pieces.{said};
+ghost use Rattle.gsym_printed.specs.Pieces.{shown_text};
 ghost use Rattle.gsym_printed.specs.Printed.{name_of};
 ghost use Rattle.gsym_printed.specs.Words.{words, address_of};
 ghost use Rattle.gsym_text_c.specs.Texts.{form_of, view_of, outcome_number, numbered};
 
 use gsym::{Address, Refusal, Text};
 use gsym_printed::{Form, Outcome, View};
+pub use laws::view_bits;
 
 /// What was printed, as C has it (RULES, "What the tools print").
 #[repr(C)]
@@ -22,8 +25,8 @@ use gsym_printed::{Form, Outcome, View};
 pub struct GsymPrinted {
     /// How many bytes the text has, whether or not they fit.
     pub len: u64,
-    /// What became of the word: 0 for a known address, the number of a refusal, or 255, which no refusal has, for a word
-    /// that is no address.
+    /// What became of the word: 0 for a known address, the number of a refusal, or 255, which no refusal has, for a
+    /// word that is no address.
     pub number: u32,
 }
 
@@ -102,9 +105,9 @@ pub extern "C" fn gsym_answer_text_2(
 /// Any bytes as they may be shown on a terminal, and how many bytes that are (RULES, "What the tools print").
 #[unsafe(no_mangle)]
 pub extern "C" fn gsym_shown_text(bytes: &[u8], room: &mut [u8]) -> u64
-    ensures { IsWritten room.old room.new result (said Lines bytes.now) }
+    ensures { IsWritten room.old room.new result (shown_text Lines bytes.now) }
 {
-    gsym_printed::shown(bytes, room) as u64
+    gsym_printed::shown_text(bytes, room) as u64
 }
 
 /// The name of the refusal of a number, and how many bytes it has; no text where no refusal has it (RULES, "Refusal

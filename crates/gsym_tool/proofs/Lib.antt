@@ -1,2 +1,3 @@
+pub mod Knowing
 pub mod Lines
 pub mod Whole

@@ -1,6 +1,7 @@
 -- The words of an input are those of its first line and then those of the rest; what was written of the lines so far.
 -- Assumes nothing.
-use Rattle.std.proofs.Common.{◌≡◌, ℕ, Bool, true, false, List, [], ◌∷◌, ◌++◌, length, Option, None, Some, IfSome, eqb, refl, sym, ap, ◌∙◌, append_assoc}
+use Rattle.std.proofs.Common.{◌≡◌, ℕ, Bool, true, false, List, [], ◌∷◌, ◌++◌, length, Option, None, Some, IfSome, eqb}
+use Rattle.std.proofs.Common.{refl, sym, ap, ◌∙◌, append_assoc}
 use Rattle.std.specs.Bool.{⊤}
 use Rattle.std.specs.List.{flat_map}
 use Rattle.std.proofs.lemmas.Grind.{flat_map-append}
@@ -60,7 +61,8 @@ by w bs b true e h =
     let p : parts b ≡ true = ap parts (eqb-true b 10 e) ∙ ten-parts in
     rw e
     (part-onto w bs b p
-    ∙ ap (λ t. t ++ words_onto [] bs) (sym (part-onto w [] b p ∙ ap (λ t. ended w ++ t) nothing ∙ nothing-after (ended w))))
+    ∙ ap (λ t. t ++ words_onto [] bs)
+    (sym (part-onto w [] b p ∙ ap (λ t. ended w ++ t) nothing ∙ nothing-after (ended w))))
 by w bs b false e h = rw e (out w bs b (parts b) refl h)
 
 through : (w s : List ℕ) → Through w s
@@ -68,7 +70,7 @@ unfolding Through
 through w [] = sym (ap (λ t. words_onto w [] ++ t) nothing ∙ nothing-after (words_onto w []))
 through w (b ∷ bs) = by w bs b (eqb b 10) refl (λ v. through v bs)
 
-words-through : (s : List ℕ) → words s ≡ words (take_through 10 s) ++ words (drop_through 10 s)
+pub words-through : (s : List ℕ) → words s ≡ words (take_through 10 s) ++ words (drop_through 10 s)
 unfolding words Through
 words-through s = through [] s
 

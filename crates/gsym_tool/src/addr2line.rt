@@ -1,9 +1,10 @@
 //! Answers to words and to standard input, as `gsym_printed` has them.
-ghost use Rattle.std.specs.Prelude.{◌≡◌, true, length, OnOk, IfOk, IfSome};
-ghost use Rattle.std.specs.List.{flat_map};
+ghost use Rattle.std.specs.Prelude.{◌≡◌, ◌↔◌, ◌&&◌, length, IsTrue, OnOk, IfOk, IfSome};
+ghost use Rattle.std.specs.List.{flat_map, list_all};
 ghost use Rattle.std.specs.Io.KnownBytes.{Appends, Keeps};
 ghost use Rattle.std.specs.Io.BufRead.{take_through, DropsThrough};
-ghost use Rattle.gsym_printed.specs.Answers.{answer_text, answers_text};
+ghost use Rattle.gsym_printed.specs.Answers.{answer_text, answers_text, outcome_of};
+ghost use Rattle.gsym_tool.specs.Known.{is_known_word, all_known};
 
 use super::files::symbols;
 use super::options::Answers;
@@ -18,7 +19,8 @@ const UNKNOWN: u8 = 1;
 // The text of an answer, where all of it fits; else how many bytes it has.
 #[tactic(auto, using(crate::proofs::Whole::whole))]
 fn fitting(room: Vec<u8>, view: View, file: &[u8], word: &[u8]) -> Result<(Vec<u8>, Outcome), usize>
-    ensures { IfOk result (λ t. t.0.items ≡ answer_text view file.now word.now) }
+    ensures text { IfOk result (λ t. t.0.items ≡ answer_text view file.now word.now) }
+    ensures outcome { IfOk result (λ t. t.1 ≡ outcome_of view file.now word.now) }
 {
     let mut room = room;
     let printed = gsym_printed::answer(view, file, word, &mut room);
@@ -36,12 +38,14 @@ fn whole_answer(
     file: &[u8],
     word: &[u8],
 ) -> Result<(Vec<u8>, Outcome), Trouble>
-    ensures { IfOk result (λ t. t.0.items ≡ answer_text view file.now word.now) }
+    ensures text { IfOk result (λ t. t.0.items ≡ answer_text view file.now word.now) }
+    ensures outcome { IfOk result (λ t. t.1 ≡ outcome_of view file.now word.now) }
 {
     match fitting(vec![in alloc; 0u8; 512]?, view, file, word) {
         Ok(text) => Ok(text),
         Err(len) => match fitting(vec![in alloc; 0u8; len]?, view, file, word) {
             Ok(text) => Ok(text),
+            // It doesn't come: an answer has as many bytes the second time.
             Err(_) => Err(Trouble::Memory),
         },
     }
@@ -73,8 +77,9 @@ fn answer_word<W: Write, E: Write>(
     out: &mut W,
     errors: &mut E,
 ) -> Result<bool, Trouble>
-    ensures { OnOk result (Appends (W.contents out.old) (W.contents out.new)
+    ensures text { OnOk result (Appends (W.contents out.old) (W.contents out.new)
         (answer_text view file.now word.now)) }
+    ensures known { IfOk result (λ known. known ≡ is_known_word view file.now word.now) }
 {
     let (text, outcome) = whole_answer(alloc, view, file, word)?;
     if matches!(outcome, Outcome::NoAddress) {
@@ -82,6 +87,13 @@ fn answer_word<W: Write, E: Write>(
     }
     put(out, &text)?;
     Ok(matches!(outcome, Outcome::Known))
+}
+
+// Whether all so far and one more are known.
+fn both(all: bool, known: bool) -> bool
+    ensures { result ≡ (all && known) }
+{
+    all && known
 }
 
 /// One answer for each word of a list, in their order; whether each is known.
@@ -93,18 +105,20 @@ fn answer_words<W: Write, E: Write>(
     out: &mut W,
     errors: &mut E,
 ) -> Result<bool, Trouble>
-    ensures { OnOk result (Appends (W.contents out.old) (W.contents out.new)
+    ensures text { OnOk result (Appends (W.contents out.old) (W.contents out.new)
         (flat_map (λ w. answer_text view file.now w.items) words.now)) }
+    ensures known { IfOk result (λ known. known ≡ list_all (λ w. is_known_word view file.now w.items) words.now) }
 {
     let mut all = true;
     for word in words {
         let known = answer_word(alloc, view, file, word.as_slice(), out, errors)?;
-        all = all && known;
+        all = both(all, known);
     }
     Ok(all)
 }
 
 // One answer for each word of a line, in their order; whether each is known.
+#[tactic(auto, using(crate::proofs::Knowing::known_next, crate::proofs::Knowing::known_ended))]
 fn answer_line<W: Write, E: Write>(
     alloc: Global,
     view: View,
@@ -113,8 +127,9 @@ fn answer_line<W: Write, E: Write>(
     out: &mut W,
     errors: &mut E,
 ) -> Result<bool, Trouble>
-    ensures { OnOk result (Appends (W.contents out.old) (W.contents out.new)
+    ensures text { OnOk result (Appends (W.contents out.old) (W.contents out.new)
         (answers_text view file.now line.now)) }
+    ensures known { IfOk result (λ known. known ≡ all_known view file.now line.now) }
 {
     let mut all = true;
     let mut rest = line;
@@ -122,7 +137,7 @@ fn answer_line<W: Write, E: Write>(
         let (_, from) = rest.split_at(word.place);
         let (bytes, after) = from.split_at(word.len);
         let known = answer_word(alloc, view, file, bytes, out, errors)?;
-        all = all && known;
+        all = both(all, known);
         rest = after;
     }
     Ok(all)
@@ -141,14 +156,14 @@ fn next_line<R: BufRead>(input: &mut R, line: &mut Vec<u8>) -> Result<(), Troubl
 }
 
 fn is_nothing(text: &[u8]) -> bool
-    ensures { result ≡ true → length text.now ≡ 0 }
+    ensures { IsTrue result ↔ (length text.now ≡ 0) }
 {
     text.is_empty()
 }
 
-// One answer for each word of an input, in their order, where its bytes are known; whether each is known. The answers of
-// a line are written before the next line is read.
-#[tactic(auto, using(crate::proofs::Lines::left_start))]
+// One answer for each word of an input, in their order, where its bytes are known; whether each is known. The answers
+// of a line are written before the next line is read.
+#[tactic(auto, using(crate::proofs::Lines::left_start, crate::proofs::Knowing::known_start))]
 fn answer_input<R: BufRead, W: Write, E: Write>(
     alloc: Global,
     view: View,
@@ -157,8 +172,9 @@ fn answer_input<R: BufRead, W: Write, E: Write>(
     out: &mut W,
     errors: &mut E,
 ) -> Result<bool, Trouble>
-    ensures { OnOk result (IfSome (R.remaining input.old)
+    ensures text { OnOk result (IfSome (R.remaining input.old)
         (λ xs. Appends (W.contents out.old) (W.contents out.new) (answers_text view file.now xs))) }
+    ensures known { IfOk result (λ known. IfSome (R.remaining input.old) (λ xs. known ≡ all_known view file.now xs)) }
 {
     let mut all = true;
     let mut line = Vec::new(alloc);
@@ -169,9 +185,10 @@ fn answer_input<R: BufRead, W: Write, E: Write>(
             return Ok(all);
         }
         let known = answer_line(alloc, view, file, text, out, errors)?;
-        all = all && known;
+        all = both(all, known);
         flush(out)?;
     }
+    // It doesn't come: no input has so many lines.
     Err(Trouble::Memory)
 }
 

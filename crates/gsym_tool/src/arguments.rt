@@ -35,87 +35,91 @@ fn push(words: &mut Vec<Vec<u8>>, word: Vec<u8>) -> Result<(), AllocError> {
 // What is read of a text with words in it.
 #[derive(Drop)]
 struct Reading {
-    // The word so far.
-    word: Vec<u8>,
-    // Whether there is one.
-    is_open: bool,
-    // The quote that is open, or 0.
-    quote: u8,
+    // The word so far; `None` between two words.
+    word: Option<Vec<u8>>,
+    // The quote that is open.
+    quote: Option<u8>,
     // Whether the byte before is a backslash.
     is_kept: bool,
 }
 
 fn parts(byte: u8) -> bool {
-    byte == 32 || (byte >= 9 && byte <= 13)
+    matches!(byte, b' ' | b'\t'..=b'\r')
 }
 
 impl Reading {
-    // Ends the word, if there is one.
-    fn end(&mut self, alloc: Global, words: &mut Vec<Vec<u8>>) -> Result<(), AllocError> {
-        if !self.is_open {
-            return Ok(());
-        }
-        let word = copy(alloc, &self.word)?;
-        self.word.clear();
-        self.is_open = false;
-        push(words, word)
-    }
-
     // A byte of a word.
-    fn byte(&mut self, byte: u8) -> Result<(), AllocError> {
-        self.is_open = true;
+    fn byte(&mut self, alloc: Global, byte: u8) -> Result<(), AllocError> {
         if self.is_kept {
             self.is_kept = false;
-            return self.keep(byte);
+            return self.keep(alloc, byte);
         }
         if byte == b'\\' {
             self.is_kept = true;
             return Ok(());
         }
-        if self.quote != 0 {
-            if byte == self.quote {
-                self.quote = 0;
-                return Ok(());
+        match self.quote {
+            Some(quote) if byte == quote => self.quote = None,
+            None if byte == b'\'' || byte == b'"' => {
+                self.quote = Some(byte);
+                self.begin(alloc);
             }
-            return self.keep(byte);
+            _ => return self.keep(alloc, byte),
         }
-        if byte == b'\'' || byte == b'"' {
-            self.quote = byte;
-            return Ok(());
-        }
-        self.keep(byte)
+        Ok(())
     }
 
-    fn keep(&mut self, byte: u8) -> Result<(), AllocError> {
-        match self.word.push(byte) {
-            Ok(()) => Ok(()),
-            Err(_) => Err(AllocError),
+    // There is a word from here on, if as yet an empty one.
+    fn begin(&mut self, alloc: Global) {
+        if self.word.is_none() {
+            self.word = Some(Vec::new(alloc));
         }
+    }
+
+    fn keep(&mut self, alloc: Global, byte: u8) -> Result<(), AllocError> {
+        let mut word = self.word.take().unwrap_or(Vec::new(alloc));
+        match word.push(byte) {
+            Ok(()) => {}
+            Err(_) => return Err(AllocError),
+        }
+        self.word = Some(word);
+        Ok(())
     }
 }
 
 // The arguments in a text: parted by white space; quotes keep it, and a backslash keeps the byte behind it.
 fn push_words(alloc: Global, words: &mut Vec<Vec<u8>>, text: &[u8]) -> Result<(), AllocError> {
     let mut reading = Reading {
-        word: Vec::new(alloc),
-        is_open: false,
-        quote: 0,
+        word: None,
+        quote: None,
         is_kept: false,
     };
     for byte in text {
-        if parts(*byte) && reading.quote == 0 && !reading.is_kept {
-            reading.end(alloc, words)?;
-        } else {
-            reading.byte(*byte)?;
+        if !parts(*byte) || reading.quote.is_some() || reading.is_kept {
+            reading.byte(alloc, *byte)?;
+        } else if let Some(word) = reading.word.take() {
+            push(words, word)?;
         }
     }
     if reading.is_kept {
-        reading.keep(b'\\')?;
+        reading.keep(alloc, b'\\')?;
     }
-    reading.end(alloc, words)
+    match reading.word {
+        Some(word) => push(words, word),
+        None => Ok(()),
+    }
 }
 
-// The text of an @FILE; none where it can't be opened.
+fn has_zero(text: &[u8]) -> bool {
+    for byte in text {
+        if *byte == 0 {
+            return true;
+        }
+    }
+    false
+}
+
+// The text of an @FILE; none where it can't be opened. No word can have a zero byte.
 fn file_text(rt: &HostRuntime, word: &[u8]) -> Result<Option<Vec<u8>>, Trouble> {
     let Some((first, name)) = word.split_first() else {
         return Ok(None);
@@ -135,6 +139,9 @@ fn file_text(rt: &HostRuntime, word: &[u8]) -> Result<Option<Vec<u8>>, Trouble> 
     }
     if text.len() > MOST {
         return Err(Trouble::File(copy(rt.alloc(), word)?, "more than 16 MiB of arguments"));
+    }
+    if has_zero(&text) {
+        return Err(Trouble::File(copy(rt.alloc(), word)?, "a zero byte among the arguments"));
     }
     Ok(Some(text))
 }

@@ -6,16 +6,38 @@ use gsym_parser::{GsymContext, Tables};
 use std::alloc::Global;
 use std::io::{self, Write};
 
-// The UUID as a build id, in hexadecimal digits.
-fn push_build_id(text: &mut Vec<u8>, file: &[u8]) -> io::Result<()> {
-    if file.len() < 48 {
-        return Ok(());
+// The place of the byte that says how long the UUID is, that of the UUID, and the most bytes that it has (RULES,
+// "Header and tables").
+const UUID_LEN: usize = 7;
+
+const UUID: usize = 28;
+
+const UUID_MOST: usize = 20;
+
+fn uuid(file: &[u8]) -> &[u8] {
+    if file.len() < UUID + UUID_MOST {
+        return &file[..0];
     }
-    let len = (file[7] as usize).min(20);
-    for byte in &file[28..28 + len] {
+    let len = usize::from(file[UUID_LEN]).min(UUID_MOST);
+    &file[UUID..UUID + len]
+}
+
+// The UUID as a build id, in hexadecimal digits.
+fn push_build_id(text: &mut Vec<u8>, uuid: &[u8]) -> io::Result<()> {
+    for byte in uuid {
         write!(text, "{byte:02x}")?;
     }
     Ok(())
+}
+
+// The line of the build id.
+fn push_build_id_line(text: &mut Vec<u8>, uuid: &[u8]) -> io::Result<()> {
+    write!(text, "build id           ")?;
+    if uuid.is_empty() {
+        return writeln!(text, "none");
+    }
+    push_build_id(text, uuid)?;
+    writeln!(text, "")
 }
 
 // A table: its name, its place and how many bytes it has.
@@ -30,24 +52,32 @@ fn push_json_table(text: &mut Vec<u8>, name: &str, place: usize, size: u64) -> i
 // What is told, as lines.
 fn push_lines(text: &mut Vec<u8>, file: &[u8], t: Tables) -> io::Result<()> {
     let count = t.count as u64;
-    writeln!(text, "version      1")?;
-    writeln!(text, "base         0x{:x}", t.base.0)?;
-    writeln!(text, "addresses    {count}")?;
-    writeln!(text, "offset size  {}", t.offset_size)?;
-    writeln!(text, "files        {}", t.file_count)?;
-    write!(text, "build id     ")?;
-    push_build_id(text, file)?;
-    writeln!(text, "")?;
-    push_table(text, "addresses    ", t.addrs, count * t.offset_size as u64)?;
-    push_table(text, "offsets      ", t.offsets, count * 4)?;
-    push_table(text, "files        ", t.files, t.file_count as u64 * 8)?;
+    writeln!(text, "version            1")?;
+    writeln!(text, "base address       0x{:x}", t.base.0)?;
+    writeln!(text, "entry count        {count}")?;
+    writeln!(text, "offset size        {}", t.offset_size)?;
+    writeln!(text, "file count         {}", t.file_count)?;
+    push_build_id_line(text, uuid(file))?;
     push_table(
         text,
-        "strings      ",
+        "address table      ",
+        t.addrs,
+        count * t.offset_size as u64,
+    )?;
+    push_table(text, "data offset table  ", t.offsets, count * 4)?;
+    push_table(
+        text,
+        "file table         ",
+        t.files,
+        t.file_count as u64 * 8,
+    )?;
+    push_table(
+        text,
+        "string table       ",
         t.strings.place,
         t.strings.size as u64,
     )?;
-    writeln!(text, "file         {} bytes", file.len())
+    writeln!(text, "file size          {} bytes", file.len())
 }
 
 // The same as one JSON object.
@@ -55,22 +85,22 @@ fn push_json(text: &mut Vec<u8>, file: &[u8], t: Tables) -> io::Result<()> {
     let count = t.count as u64;
     write!(
         text,
-        "{{\"version\":1,\"base\":\"0x{:x}\",\"addresses\":{count}",
+        "{{\"version\":1,\"base_address\":\"0x{:x}\",\"entry_count\":{count}",
         t.base.0
     )?;
     write!(
         text,
-        ",\"offset_size\":{},\"files\":{}",
+        ",\"offset_size\":{},\"file_count\":{}",
         t.offset_size, t.file_count
     )?;
     write!(text, ",\"build_id\":\"")?;
-    push_build_id(text, file)?;
+    push_build_id(text, uuid(file))?;
     write!(text, "\"")?;
     push_json_table(text, "address_table", t.addrs, count * t.offset_size as u64)?;
-    push_json_table(text, "offset_table", t.offsets, count * 4)?;
+    push_json_table(text, "data_offset_table", t.offsets, count * 4)?;
     push_json_table(text, "file_table", t.files, t.file_count as u64 * 8)?;
-    push_json_table(text, "strings", t.strings.place, t.strings.size as u64)?;
-    writeln!(text, ",\"size\":{}}}", file.len())
+    push_json_table(text, "string_table", t.strings.place, t.strings.size as u64)?;
+    writeln!(text, ",\"file_size\":{}}}", file.len())
 }
 
 fn info_text(alloc: Global, json: bool, file: &[u8], t: Tables) -> io::Result<Vec<u8>> {

@@ -27,7 +27,25 @@ const TROUBLE: u8 = 2;
 const VERSION: &str = "gsym 0.2.0\n";
 
 const USAGE: &str =
-    "usage: gsym addr2line -e FILE [-a] [-f] [-i] [-p] [-s] [-C] [--base ADDRESS] [--return-addresses]\n                      [--refusals] [--json] [@FILE] [ADDRESS...]\n       gsym info [--json] FILE\n  -e, --exe FILE          the GSYM symbol file\n  -a, --addresses         print each address first\n  -f, --functions         print function names\n  -i, --inlines           print inlined calls too, from the innermost outwards\n  -p, --pretty-print      one line a frame\n  -s, --basenames         print files without their directories\n  -C, --demangle[=STYLE]  accepted, and names are printed as they stand in the file\n      --base ADDRESS      where the program was loaded: subtracted from each address first\n      --return-addresses  look up the address before each one, where the call stands\n      --refusals          print a refusal's number and name instead of ??\n      --json              one JSON object a line, with all frames\n  @FILE                   read arguments from FILE\n  -h, -H, --help          print this\n  -v, -V, --version       print the version\nAddresses are hexadecimal; without any they are read from standard input.\n";
+    "usage: gsym addr2line -e FILE [-a] [-f] [-i] [-p] [-s] [-C] [--base ADDRESS] [--return-addresses]
+                      [--refusals] [--json] [@FILE] [ADDRESS...]
+       gsym info [--json] FILE
+  -e, --exe FILE          the GSYM symbol file
+  -a, --addresses         print each address first
+  -f, --functions         print function names
+  -i, --inlines           print inlined calls too, from the innermost outwards
+  -p, --pretty-print      one line a frame
+  -s, --basenames         print files without their directories
+  -C, --demangle[=STYLE]  accepted, and names are printed as they stand in the file
+      --base ADDRESS      where the program was loaded: subtracted from each address first
+      --return-addresses  look up the address before each one, where the call stands
+      --refusals          print a refusal's number and name instead of ??
+      --json              one JSON object a line, with all frames
+  @FILE                   read arguments from FILE
+  -h, -H, --help          print this
+  -v, -V, --version       print the version
+Addresses are hexadecimal; without any they are read from standard input.
+";
 
 // Writes a text that was asked for.
 fn print(rt: &HostRuntime, text: &str) -> Result<u8, Trouble> {
@@ -50,10 +68,8 @@ fn run(rt: &HostRuntime) -> Result<u8, Trouble> {
 
 // Tells why there is no answer, where that can be told.
 fn tell(rt: &HostRuntime, trouble: &Trouble) {
-    if !matches!(trouble, Trouble::Usage) {
-        if let Ok(line) = trouble::told(rt.alloc(), trouble) {
-            let _ = rt.stderr().write_all(&line);
-        }
+    if let Ok(line) = trouble::told(rt.alloc(), trouble) {
+        let _ = rt.stderr().write_all(&line);
     }
     if trouble.is_usage() {
         let _ = eprint!(rt; "{USAGE}");

@@ -27,9 +27,9 @@ pub enum Asked {
     Info(Info),
 }
 
-// What one option says.
+// What one option sets.
 #[derive(Clone, Copy)]
-enum Said {
+enum Setting {
     File,
     Base,
     Address,
@@ -46,55 +46,55 @@ enum Said {
     Wrong,
 }
 
-fn long_option(name: &str) -> Said {
+fn long_option(name: &str) -> Setting {
     match name {
-        "exe" => Said::File,
-        "base" => Said::Base,
-        "addresses" => Said::Address,
-        "functions" => Said::Functions,
-        "inlines" => Said::Inlines,
-        "pretty" | "pretty-print" => Said::Pretty,
-        "basenames" => Said::BaseNames,
-        "return-addresses" => Said::ReturnAddresses,
-        "refusals" => Said::Refusals,
-        "json" => Said::Json,
-        "demangle" => Said::Demangle,
-        "help" => Said::Help,
-        "version" => Said::Version,
-        _ => Said::Wrong,
+        "exe" => Setting::File,
+        "base" => Setting::Base,
+        "addresses" => Setting::Address,
+        "functions" => Setting::Functions,
+        "inlines" => Setting::Inlines,
+        "pretty" | "pretty-print" => Setting::Pretty,
+        "basenames" => Setting::BaseNames,
+        "return-addresses" => Setting::ReturnAddresses,
+        "refusals" => Setting::Refusals,
+        "json" => Setting::Json,
+        "demangle" => Setting::Demangle,
+        "help" => Setting::Help,
+        "version" => Setting::Version,
+        _ => Setting::Wrong,
     }
 }
 
-fn short_option(letter: u8) -> Said {
+fn short_option(letter: u8) -> Setting {
     match letter {
-        b'e' => Said::File,
-        b'a' => Said::Address,
-        b'f' => Said::Functions,
-        b'i' => Said::Inlines,
-        b'p' => Said::Pretty,
-        b's' => Said::BaseNames,
-        b'C' => Said::Demangle,
-        b'h' | b'H' => Said::Help,
-        b'v' | b'V' => Said::Version,
-        _ => Said::Wrong,
+        b'e' => Setting::File,
+        b'a' => Setting::Address,
+        b'f' => Setting::Functions,
+        b'i' => Setting::Inlines,
+        b'p' => Setting::Pretty,
+        b's' => Setting::BaseNames,
+        b'C' => Setting::Demangle,
+        b'h' | b'H' => Setting::Help,
+        b'v' | b'V' => Setting::Version,
+        _ => Setting::Wrong,
     }
 }
 
-fn with_option(view: View, said: Said) -> View {
+fn with_option(view: View, setting: Setting) -> View {
     let mut view = view;
-    match said {
-        Said::Address => view.addresses = true,
-        Said::Functions => view.functions = true,
-        Said::Inlines => view.inlines = true,
-        Said::Pretty => {
+    match setting {
+        Setting::Address => view.addresses = true,
+        Setting::Functions => view.functions = true,
+        Setting::Inlines => view.inlines = true,
+        Setting::Pretty => {
             if !matches!(view.form, Form::Json) {
                 view.form = Form::Pretty;
             }
         }
-        Said::BaseNames => view.base_names = true,
-        Said::ReturnAddresses => view.return_addresses = true,
-        Said::Refusals => view.refusals = true,
-        Said::Json => view.form = Form::Json,
+        Setting::BaseNames => view.base_names = true,
+        Setting::ReturnAddresses => view.return_addresses = true,
+        Setting::Refusals => view.refusals = true,
+        Setting::Json => view.form = Form::Json,
         _ => {}
     }
     view
@@ -109,9 +109,11 @@ struct Parse {
     // Whether what follows are addresses, whatever they begin with.
     ended: bool,
     // The option whose value is the next word.
-    wants: Option<Said>,
+    wants: Option<Setting>,
     // Help or version, whichever was asked for first.
-    other: Option<Said>,
+    other: Option<Setting>,
+    // The first word with an option that `addr2line` alone has.
+    of_answers: Option<Vec<u8>>,
 }
 
 // Whether the words are to be read on.
@@ -125,21 +127,32 @@ fn wrong(alloc: Global, word: &[u8]) -> Trouble {
 }
 
 impl Parse {
-    // An option that stands in a word.
-    fn option(&mut self, alloc: Global, said: Said, word: &[u8]) -> Read {
-        match said {
-            Said::File | Said::Base => self.wants = Some(said),
-            Said::Help | Said::Version => self.other = Some(said),
-            Said::Wrong => return Err(wrong(alloc, word)),
-            _ => self.view = with_option(self.view, said),
+    // Keeps the first word with an option that `addr2line` alone has.
+    fn keep(&mut self, alloc: Global, setting: Setting, word: &[u8]) -> Read {
+        if self.of_answers.is_none() && !matches!(setting, Setting::Json) {
+            self.of_answers = Some(copy(alloc, word)?);
         }
         Ok(())
     }
 
+    // An option that stands in a word.
+    fn option(&mut self, alloc: Global, setting: Setting, word: &[u8]) -> Read {
+        match setting {
+            Setting::Help | Setting::Version => {
+                self.other = Some(setting);
+                return Ok(());
+            }
+            Setting::Wrong => return Err(wrong(alloc, word)),
+            Setting::File | Setting::Base => self.wants = Some(setting),
+            _ => self.view = with_option(self.view, setting),
+        }
+        self.keep(alloc, setting, word)
+    }
+
     // A value for the option before.
-    fn value(&mut self, said: Said, word: Vec<u8>) -> Read {
+    fn value(&mut self, setting: Setting, word: Vec<u8>) -> Read {
         self.wants = None;
-        if !matches!(said, Said::Base) {
+        if !matches!(setting, Setting::Base) {
             self.file = Some(word);
             return Ok(());
         }
@@ -161,23 +174,24 @@ impl Parse {
             }
             self.option(alloc, short_option(*letter), &[b'-', *letter])?;
             rest = after;
-            if let Some(said) = self.wants {
+            if let Some(setting) = self.wants {
                 if rest.is_empty() {
                     return Ok(());
                 }
-                return self.value(said, copy(alloc, rest)?);
+                return self.value(setting, copy(alloc, rest)?);
             }
         }
         Ok(())
     }
 
     // A long option with a value in its word.
-    fn long_value(&mut self, alloc: Global, said: Said, value: &[u8], word: &[u8]) -> Read {
-        match said {
-            Said::File | Said::Base => self.value(said, copy(alloc, value)?),
-            Said::Demangle => Ok(()),
-            _ => Err(wrong(alloc, word)),
+    fn long_value(&mut self, alloc: Global, setting: Setting, value: &[u8], word: &[u8]) -> Read {
+        match setting {
+            Setting::File | Setting::Base => self.value(setting, copy(alloc, value)?)?,
+            Setting::Demangle => {}
+            _ => return Err(wrong(alloc, word)),
         }
+        self.keep(alloc, setting, word)
     }
 
     // A long option, and the word that it stands in.
@@ -201,8 +215,8 @@ impl Parse {
     }
 
     fn word(&mut self, alloc: Global, word: Vec<u8>) -> Read {
-        if let Some(said) = self.wants {
-            return self.value(said, word);
+        if let Some(setting) = self.wants {
+            return self.value(setting, word);
         }
         if self.ended || word.len() < 2 || word[0] != b'-' {
             self.push(word)?;
@@ -221,7 +235,7 @@ impl Parse {
     // What stands where a value is missing.
     fn missing(&self, alloc: Global) -> Read {
         let name = match self.wants {
-            Some(Said::Base) => "--base",
+            Some(Setting::Base) => "--base",
             Some(_) => "-e",
             None => return Ok(()),
         };
@@ -238,12 +252,21 @@ fn is_word(word: &[u8], text: &str) -> bool {
 
 // What `gsym info` is asked for.
 fn info_asked(parse: Parse) -> Result<Asked, Trouble> {
-    let Parse { view, words, .. } = parse;
+    let Parse {
+        view,
+        words,
+        of_answers,
+        ..
+    } = parse;
+    if let Some(word) = of_answers {
+        return Err(Trouble::Misused("gsym info has no such option:", word));
+    }
     let mut words = words;
     let json = matches!(view.form, Form::Json);
     match words.pop() {
         Some(file) if words.is_empty() => Ok(Asked::Info(Info { json, file })),
-        _ => Err(Trouble::Usage),
+        Some(_) => Err(Trouble::Usage("gsym info takes one FILE alone")),
+        None => Err(Trouble::Usage("FILE is missing")),
     }
 }
 
@@ -257,23 +280,26 @@ fn answers_asked(parse: Parse) -> Result<Asked, Trouble> {
     } = parse;
     match file {
         Some(file) => Ok(Asked::Answers(Answers { view, file, words })),
-        None => Err(Trouble::Usage),
+        None => Err(Trouble::Usage("-e FILE is missing")),
     }
 }
 
-fn asked_of(parse: Parse, command: &[u8]) -> Result<Asked, Trouble> {
+fn asked_of(parse: Parse, command: Option<Vec<u8>>) -> Result<Asked, Trouble> {
     match parse.other {
-        Some(Said::Help) => return Ok(Asked::Help),
+        Some(Setting::Help) => return Ok(Asked::Help),
         Some(_) => return Ok(Asked::Version),
         None => {}
     }
-    if is_word(command, "addr2line") {
+    let Some(command) = command else {
+        return Err(Trouble::Usage("a command is missing"));
+    };
+    if is_word(&command, "addr2line") {
         return answers_asked(parse);
     }
-    if is_word(command, "info") {
+    if is_word(&command, "info") {
         return info_asked(parse);
     }
-    Err(Trouble::Usage)
+    Err(Trouble::Misused("no such command:", command))
 }
 
 /// What all words after the program's name ask for.
@@ -285,18 +311,19 @@ pub fn asked_by(alloc: Global, words: Vec<Vec<u8>>) -> Result<Asked, Trouble> {
         ended: false,
         wants: None,
         other: None,
+        of_answers: None,
     };
-    let mut command = Vec::new(alloc);
+    let mut command = None;
     for word in words {
         if parse.other.is_some() {
             break;
         }
-        if command.is_empty() && !word.starts_with(b"-".as_slice()) {
-            command = word;
+        if command.is_none() && parse.wants.is_none() && !word.starts_with(b"-".as_slice()) {
+            command = Some(word);
         } else {
             parse.word(alloc, word)?;
         }
     }
     parse.missing(alloc)?;
-    asked_of(parse, &command)
+    asked_of(parse, command)
 }

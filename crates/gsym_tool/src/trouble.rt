@@ -5,8 +5,8 @@ use std::io::{self, Write};
 
 #[derive(Drop)]
 pub enum Trouble {
-    /// The words of the command line ask for nothing that there is.
-    Usage,
+    /// What the words of the command line lack.
+    Usage(&'static str),
     /// What is wrong, and the word.
     Misused(&'static str, Vec<u8>),
     Memory,
@@ -33,7 +33,7 @@ impl Trouble {
 
     /// Whether the usage is to be shown.
     pub fn is_usage(&self) -> bool {
-        matches!(self, Trouble::Usage | Trouble::Misused(..))
+        matches!(self, Trouble::Usage(_) | Trouble::Misused(..))
     }
 }
 
@@ -52,9 +52,9 @@ fn push_str(line: &mut Vec<u8>, text: &str) -> io::Result<()> {
 
 /// Bytes as they may be shown.
 pub fn push_shown(alloc: Global, line: &mut Vec<u8>, bytes: &[u8]) -> io::Result<()> {
-    let len = gsym_printed::shown(bytes, &mut []);
+    let len = gsym_printed::shown_text(bytes, &mut []);
     let mut room = vec![in alloc; 0u8; len]?;
-    let _ = gsym_printed::shown(bytes, &mut room);
+    let _ = gsym_printed::shown_text(bytes, &mut room);
     line.extend_from_slice(&room)?;
     Ok(())
 }
@@ -67,7 +67,7 @@ fn push_file(alloc: Global, line: &mut Vec<u8>, name: &[u8], why: &str) -> io::R
 
 fn push_trouble(alloc: Global, line: &mut Vec<u8>, trouble: &Trouble) -> io::Result<()> {
     match trouble {
-        Trouble::Usage => push_str(line, "how it is used:"),
+        Trouble::Usage(why) => push_str(line, why),
         Trouble::Misused(why, word) => {
             push_str(line, why)?;
             push_str(line, " '")?;

@@ -2,10 +2,10 @@
 //! arguments on and lays the answer out as C has it. What a host should call is `gsym_c`'s business.
 #![tactic(auto)]
 
-ghost use Rattle.std.specs.Prelude.{◌≡◌, ◌≢◌, min, length, take, drop, Ok};
+ghost use Rattle.std.specs.Prelude.{◌≡◌, ◌≢◌, length, take, drop, Ok};
 ghost use Rattle.gsym_leb128.specs.Answers.{unsigned_at, signed_at};
 ghost use Rattle.gsym_linetab.specs.Rows.{line_row};
-ghost use Rattle.gsym_inline.specs.Block.{block_of};
+ghost use Rattle.gsym_inline.specs.Block.{block_of, room_of};
 ghost use Rattle.reader_c.specs.Laid.{numberless, laid_unsigned, laid_signed};
 ghost use Rattle.reader_c.specs.Laid.{address, rowless, laid_line, laid_block};
 
@@ -142,11 +142,11 @@ pub extern "C" fn gsym_block(
     addr: u64,
     frames: &mut [InlineFrame],
 ) -> BlockAnswer
-    ensures answer { result ≡ laid_block (block_of symbol addr (min 64 (length frames.old)) block.now) }
+    ensures answer { result ≡ laid_block (block_of symbol addr (room_of (length frames.old)) block.now) }
     ensures stays { drop result.count frames.new ≡ drop result.count frames.old }
     ensures kept { result.number ≢ 0 → frames.new ≡ frames.old }
     ensures list { result.number ≡ 0
-        → Ok (take result.count frames.new) ≡ block_of symbol addr (min 64 (length frames.old)) block.now }
+        → Ok (take result.count frames.new) ≡ block_of symbol addr (room_of (length frames.old)) block.now }
 {
     match gsym::block_frames(block, Address(symbol), Address(addr), frames) {
         Ok(count) => BlockAnswer { count, number: 0 },

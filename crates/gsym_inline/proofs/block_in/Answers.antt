@@ -1,4 +1,5 @@
--- `gsym_inline::block_in` meets its contract: the root is read as a judged node, and its frames or its fault are the answer.
+-- `gsym_inline::block_in` meets its contract: the root is read as a judged node, and its frames or its fault are the
+-- answer.
 -- Assumes nothing.
 use Rattle.std.proofs.Common.{Ok, Err, [], arith}
 use Rattle.gsym_inline.proofs.Listing.{root_listed, root_refused}

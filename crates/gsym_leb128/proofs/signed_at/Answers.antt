@@ -1,4 +1,4 @@
--- `gsym_leb128::signed_at` meets its contract: a last byte from 64 on has the sign, and of tenth bytes only 0 and 127 fit.
+-- `gsym_leb128::signed_at` meets its contract: a last byte from 64 on has the sign; of tenth bytes only 0 and 127 fit.
 -- Assumes nothing.
 use Rattle.std.proofs.Common.{ℕ, ◌+◌, ◌-◌, ◌*◌, ◌^◌, ◌<◌, ◌≤◌, List, length, get_or, arith}
 use Rattle.gsym_leb128.proofs.Turn.{Sofar, goes_on}
@@ -16,7 +16,8 @@ use Rattle.gsym_leb128.proofs.signed_at.Goals.{then-loop-i-test+else-weight-lt-T
 
 -- one more group: its value, the weight after it, and what is read then
 turn :
-    (s : List ℕ) (at low weight i : ℕ) → Sofar s at low weight i → i < length s → get_or s i 0 < 256 → 128 ≤ get_or s i 0 →
+    (s : List ℕ) (at low weight i : ℕ) → Sofar s at low weight i → i < length s → get_or s i 0 < 256 →
+    128 ≤ get_or s i 0 →
     weight < 2 ^ 63 →
     let more = low + (get_or s i 0 - 128) * weight in
     (more < 2 ^ 63) × (weight * 128 ≤ 2 ^ 63) × Sofar s at more (weight * 128) (i + 1)

@@ -42,10 +42,12 @@ unfolding step_of
 returns-in_err-special-in_default-clause-exact c = search (rules, gets, nat_tests)
 
 pub returns-in_err-special-in_default-clause-stopped : goal.returns-in_err-special-in_default-clause-stopped
-returns-in_err-special-in_default-clause-stopped c = stopped_is _ _ _ _ (returns-in_err-special-in_default-clause-exact c)
+returns-in_err-special-in_default-clause-stopped c =
+    stopped_is _ _ _ _ (returns-in_err-special-in_default-clause-exact c)
 
 pub returns-in_err-special-in_default-clause-used_up : goal.returns-in_err-special-in_default-clause-used_up
-returns-in_err-special-in_default-clause-used_up c = used_up_is _ _ _ _ (returns-in_err-special-in_default-clause-exact c)
+returns-in_err-special-in_default-clause-used_up c =
+    used_up_is _ _ _ _ (returns-in_err-special-in_default-clause-exact c)
 
 pub returns-in_ok-set_file-in-1-clause-exact : goal.returns-in_ok-set_file-in-1-clause-exact
 unfolding step_of

@@ -1,4 +1,4 @@
--- `gsym_strtab::name_in` meets its contract. The invariant: the bytes from `at` to `i` are passed, the name goes on at `i`.
+-- `gsym_strtab::name_in` meets its contract. The invariant: bytes from `at` to `i` are passed, the name goes on at `i`.
 -- Assumes nothing.
 use Rattle.std.proofs.Common.{ℕ, ◌+◌, List, [], ◌≡◌, refl, drop, arith}
 use Rattle.gsym_strtab.specs.Utf8.{range}

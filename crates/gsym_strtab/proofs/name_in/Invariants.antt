@@ -1,4 +1,4 @@
--- `gsym_strtab::name_in`: the loop's invariant says that the bytes from `at` to `i` are passed, and the name goes on at `i`.
+-- `gsym_strtab::name_in`: by the loop's invariant the bytes from `at` to `i` are passed, and the name goes on at `i`.
 -- Assumes nothing.
 use Rattle.std.proofs.Common.{◌-◌, [], length}
 use Rattle.gsym_strtab.specs.Strings.{name_in}

@@ -3,7 +3,8 @@
 use Rattle.std.proofs.Common.{◌≡◌, ◌&&◌, false, refl}
 use Rattle.gsym.proofs.Promised.{plain_exact}
 use Rattle.gsym.proofs.lookups.lookup_by.Goals as goal
-use Rattle.gsym.proofs.lookups.lookup_by.Goals.{else-options-via-then-options+else-options-2, else-options-via-else-options}
+use Rattle.gsym.proofs.lookups.lookup_by.Goals.{else-options-via-then-options+else-options-2}
+use Rattle.gsym.proofs.lookups.lookup_by.Goals.{else-options-via-else-options}
 
 pub returns-else-options-clause-exact : goal.returns-else-options-clause-exact
 returns-else-options-clause-exact c =

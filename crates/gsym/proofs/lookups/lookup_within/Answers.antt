@@ -27,10 +27,12 @@ copy_from_slice-requires g c =
 
 pub returns-clause-stays : goal.returns-clause-stays
 returns-clause-stays g c =
-    stays _ _ g.row.N (length c.args.frames.now) _ _ c.in_ok-answer.ensures.exact c.args.frames.now _ _ c.len.ensures.value
+    stays _ _ g.row.N (length c.args.frames.now) _ _ c.in_ok-answer.ensures.exact c.args.frames.now _ _
+    c.len.ensures.value
     (c.copy_from_slice.ensures.after ∙ c.as_slice.ensures.value)
 
 pub returns-clause-exact : goal.returns-clause-exact
 returns-clause-exact g c =
-    placed _ _ g.row.N (length c.args.frames.now) _ _ c.in_ok-answer.ensures.exact c.args.frames.now _ _ c.len.ensures.value
+    placed _ _ g.row.N (length c.args.frames.now) _ _ c.in_ok-answer.ensures.exact c.args.frames.now _ _
+    c.len.ensures.value
     (c.copy_from_slice.ensures.after ∙ c.as_slice.ensures.value)

@@ -1,5 +1,5 @@
 use Rattle.std.proofs.Common.{◌+◌, ◌-◌, ◌*◌, ◌≤◌, ◌≡◌, length}
-use Rattle.gsym_inline.specs.View.{view}
+use Rattle.gsym_inline.specs.Inherited.{inherited_of}
 use Rattle.gsym_inline.specs.Walk.{walk_list}
 use Rattle.gsym_inline.proofs.walk.+children_node.Given as goal
 
@@ -14,7 +14,8 @@ decreases-node l = 2 * (length l.s.now - l.at)
 abbrev pub invariant-children-loop-next : goal.invariant-children-loop-next
 invariant-children-loop-next l =
     (l.at ≤ l.to) × (length l.frames.items ≤ l.context.room)
-    × (walk_list l.s (view l.context) l.at l.initial.frames.items ≡ walk_list l.s (view l.context) l.to l.frames.items)
+    × (walk_list l.s (inherited_of l.context) l.at l.initial.frames.items
+    ≡ walk_list l.s (inherited_of l.context) l.to l.frames.items)
 
 abbrev pub decreases-children-loop-next : goal.decreases-children-loop-next
 decreases-children-loop-next l = length l.s - l.to

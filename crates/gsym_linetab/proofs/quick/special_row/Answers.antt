@@ -6,10 +6,10 @@ use Rattle.gsym_linetab.proofs.quick.special_row.Goals as goal
 
 pub overflow_sub-over : goal.overflow_sub-over
 overflow_sub-over c =
-    (over-is c.args.plan (get_or c.args.ops.now c.args.state.at 0 - 4) (omega arith)).0
+    (over-is c.args.plan c.from-a.result (omega (arith, c.from-a.ensures))).0
 
 pub returns : goal.returns
 returns c =
     let f : FitsSigned w64 c.args.plan.header.min_delta = search rules in
-    special-made c.args.plan f _ c.args.state.at c.args.state.row.addr.0 _ c.args.state.row.file_line.0 _ _
-    c.requires.there c.requires.special (omega arith) refl refl
+    special-made c.args.plan f _ c.args.state.at c.args.state.row.addr.0 _ c.args.state.row.file_line.0 _ _ _ _
+    c.requires.there c.requires.special (omega arith) c.from-a.ensures c.from.ensures refl refl

@@ -12,4 +12,5 @@ returns-clause-exact c =
     entry_there (view c.args.self.now) _ _ (omega arith)
     (c.entry_at.ensures
     ∙ ap (λ s. entry_number t.offset_size (drop (c.args.index * t.offset_size) s))
-    (take_all (length c.args.self.now.file.now - t.addrs) _ (omega (arith, length-drop t.addrs c.args.self.now.file.now))))
+    (take_all (length c.args.self.now.file.now - t.addrs) _
+    (omega (arith, length-drop t.addrs c.args.self.now.file.now))))

@@ -7,39 +7,53 @@ use Rattle.gsym_parser.proofs.GsymContext.find_addr.Goals as goal
 
 pub returns-in_err-index-clause-chosen : goal.returns-in_err-index-clause-chosen
 returns-in_err-index-clause-chosen c =
-    rw c.from_residual.ensures (law.none_right (view c.args.self.now) c.args.addr (sym c.in_err-index.was ∙ c.search.ensures))
+    rw c.from_residual.ensures
+    (law.none_right (view c.args.self.now) c.args.addr (sym c.in_err-index.was ∙ c.search.ensures))
 
 pub returns-in_err-index-clause-only : goal.returns-in_err-index-clause-only
 returns-in_err-index-clause-only c =
-    rw c.from_residual.ensures (law.none_only (view c.args.self.now) c.args.addr (sym c.in_err-index.was ∙ c.search.ensures))
+    rw c.from_residual.ensures
+    (law.none_only (view c.args.self.now) c.args.addr (sym c.in_err-index.was ∙ c.search.ensures))
 
 pub returns-in_err-index-clause-lands : goal.returns-in_err-index-clause-lands
 returns-in_err-index-clause-lands c =
-    rw c.from_residual.ensures (law.none_lands (view c.args.self.now) c.args.addr (sym c.in_err-index.was ∙ c.search.ensures))
+    rw c.from_residual.ensures
+    (law.none_lands (view c.args.self.now) c.args.addr (sym c.in_err-index.was ∙ c.search.ensures))
 
 pub returns-in_err-index-clause-none : goal.returns-in_err-index-clause-none
-returns-in_err-index-clause-none c =
-    (λ e. law.none_nowhere (view c.args.self.now) c.args.addr (sym c.in_err-index.was ∙ c.search.ensures), λ n. rw c.from_residual.ensures refl)
+returns-in_err-index-clause-none c = (
+  λ e. law.none_nowhere (view c.args.self.now) c.args.addr (sym c.in_err-index.was ∙ c.search.ensures),
+  λ n. rw c.from_residual.ensures refl,
+)
 
 pub overflow_add-result : goal.overflow_add-result
 overflow_add-result c =
     let fits : c.args.addr.0 < 2 ^ 64 = search rules in
-    omega (arith, fits, law.search_below (view c.args.self.now) c.args.addr _ _ (sym c.in_ok-index.was ∙ c.search.ensures))
+    omega (
+      arith,
+      fits,
+      law.search_below
+          (view c.args.self.now) c.args.addr _ _ (sym c.in_ok-index.was ∙ c.search.ensures),
+    )
 
 pub returns-clause-chosen : goal.returns-clause-chosen
-returns-clause-chosen c = law.some_right (view c.args.self.now) c.args.addr _ _ (sym c.in_ok-index.was ∙ c.search.ensures)
+returns-clause-chosen c =
+    law.some_right (view c.args.self.now) c.args.addr _ _ (sym c.in_ok-index.was ∙ c.search.ensures)
 
 pub returns-clause-below : goal.returns-clause-below
-returns-clause-below c = law.search_below (view c.args.self.now) c.args.addr _ _ (sym c.in_ok-index.was ∙ c.search.ensures)
+returns-clause-below c =
+    law.search_below (view c.args.self.now) c.args.addr _ _ (sym c.in_ok-index.was ∙ c.search.ensures)
 
 pub returns-clause-last : goal.returns-clause-last
-returns-clause-last c = law.search_last (view c.args.self.now) c.args.addr _ _ (sym c.in_ok-index.was ∙ c.search.ensures)
+returns-clause-last c =
+    law.search_last (view c.args.self.now) c.args.addr _ _ (sym c.in_ok-index.was ∙ c.search.ensures)
 
 pub returns-clause-only : goal.returns-clause-only
 returns-clause-only c = law.some_only (view c.args.self.now) c.args.addr _ _ (sym c.in_ok-index.was ∙ c.search.ensures)
 
 pub returns-clause-lands : goal.returns-clause-lands
-returns-clause-lands c = law.some_lands (view c.args.self.now) c.args.addr _ _ (sym c.in_ok-index.was ∙ c.search.ensures)
+returns-clause-lands c =
+    law.some_lands (view c.args.self.now) c.args.addr _ _ (sym c.in_ok-index.was ∙ c.search.ensures)
 
 pub returns-clause-none : goal.returns-clause-none
 returns-clause-none c = (
@@ -55,4 +69,5 @@ returns-clause-entry c =
     )
 
 pub returns-clause-exact : goal.returns-clause-exact
-returns-clause-exact c = law.search_some (view c.args.self.now) c.args.addr _ _ (sym c.in_ok-index.was ∙ c.search.ensures)
+returns-clause-exact c =
+    law.search_some (view c.args.self.now) c.args.addr _ _ (sym c.in_ok-index.was ∙ c.search.ensures)

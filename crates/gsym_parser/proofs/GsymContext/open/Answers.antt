@@ -6,4 +6,4 @@ use Rattle.gsym_parser.proofs.GsymContext.open.Goals as goal
 
 pub invariant_of-result : goal.invariant_of-result
 invariant_of-result c =
-    record { within = placed_within _ c.in_ok-header.header _ (sym c.place_tables.ensures ∙ c.in_ok-tables.was) }
+    record { within = placed_within _ _ _ (sym c.place_tables.ensures ∙ c.in_ok-tables.was) }

@@ -1,4 +1,4 @@
--- `gsym_parser::search::halve` meets its contract: each turn of the loop is a turn of the search on the list of entries.
+-- `gsym_parser::search::halve` meets its contract: each turn is a turn of the search on the list of entries.
 -- Assumes nothing.
 use Rattle.std.proofs.Common.{arith}
 use Rattle.gsym_parser.proofs.Turns.{begins, turn-up, turn-stay, none, starts-above, ended}

@@ -1,5 +1,5 @@
--- `gsym_parser::search::halve`: the loop's invariant says that the search on the list of entries goes on at `lo` and `len`,
--- and that the entry kept is that at `lo`.
+-- `gsym_parser::search::halve`: the loop's invariant says that the search on the list of entries goes on at `lo` and
+-- `len`, and that the entry kept is that at `lo`.
 -- Assumes nothing.
 use Rattle.gsym_parser.proofs.Turns.{Sofar}
 use Rattle.gsym_parser.proofs.search.halve.Given as goal

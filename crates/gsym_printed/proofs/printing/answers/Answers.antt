@@ -1,5 +1,5 @@
--- `gsym_printed::printing::answers`: no word is left, and what stands in the lent bytes is said once, of a text from the
--- front on.
+-- `gsym_printed::printing::answers`: no word is left, and what stands in the lent bytes is said once, of a text from
+-- the front on.
 -- Assumes nothing.
 use Rattle.std.proofs.Common.{sym, ◌∙◌}
 use Rattle.gsym_printed.specs.Answers.{answer_text}

@@ -14,7 +14,8 @@ use Rattle.gsym_inline.specs.Frames.{in_range, any_in, first_off}
 use Rattle.gsym_inline.specs.Head.{range_at, ranges_at, rest_at, past_ranges, rest_head, node_head, head_at}
 use Rattle.gsym_inline.specs.Judge.{judged_range, judged_ranges, judged_rest, judged_node, judged_at}
 use Rattle.gsym_inline.specs.Skip.{past_node, then_skip, skip_within, skip_list}
-use Rattle.gsym_inline.specs.Walk.{with_frame, open_node, closed_node, walk_from, then_walk, walk_within, walk_list, walk_node}
+use Rattle.gsym_inline.specs.Walk.{with_frame, open_node, closed_node, walk_from, then_walk, walk_within, walk_list}
+use Rattle.gsym_inline.specs.Walk.{walk_node}
 use Rattle.gsym_inline.specs.Block.{block_of}
 use Rattle.gsym_parser.specs.Numbers.{numbers_of}
 use Rattle.gsym_parser.specs.Header.{tables_of, opened_of}
@@ -22,18 +23,19 @@ use Rattle.gsym_parser.specs.Search.{halving, chosen_from, find_in, entries, ent
 use Rattle.gsym_parser.specs.Entries.{symbol_at, offset_at, info_in, info_at, covered_by, file_at}
 use Rattle.gsym_parser.specs.Items.{sized_item, item_front, items_within, items_of}
 use Rattle.gsym_resolver.specs.Known.{read_items}
-use Rattle.gsym_resolver.specs.Lookup.{landing_at, position_at, call_at, calls_at, moved_up, with_frames, with_row, with_code, lookup_of}
+use Rattle.gsym_resolver.specs.Lookup.{landing_at, position_at, call_at, calls_at, moved_up, with_frames, with_row}
+use Rattle.gsym_resolver.specs.Lookup.{with_code, lookup_of}
 use Rattle.gsym_resolver.proofs.laws.whole_lookups.Goals as goal
 
 pub returns : goal.returns
-unfolding byte_front u16_front u32_front u64_front u8_at u16_at u32_at u64_at digits unsigned signed unsigned_at signed_at
-    followers octets utf8 before_zero text_in name_in text_at name_at header_of set_file advance_pc advance_line range_of
-    special_of step_of within run_of row_among table_of line_row int_wrap in_range any_in first_off range_at ranges_at rest_at
-    past_ranges rest_head node_head head_at judged_range judged_ranges judged_rest judged_node judged_at past_node then_skip
-    skip_within skip_list with_frame open_node closed_node walk_from then_walk walk_within walk_list walk_node block_of
-    numbers_of tables_of opened_of halving chosen_from find_in entries entries_of find_of symbol_at offset_at info_in info_at
-    covered_by file_at sized_item item_front items_within items_of read_items landing_at position_at call_at calls_at moved_up
-    with_frames with_row with_code lookup_of
+unfolding byte_front u16_front u32_front u64_front u8_at u16_at u32_at u64_at digits unsigned signed unsigned_at
+    signed_at followers octets utf8 before_zero text_in name_in text_at name_at header_of set_file advance_pc
+    advance_line range_of special_of step_of within run_of row_among table_of line_row int_wrap in_range any_in
+    first_off range_at ranges_at rest_at past_ranges rest_head node_head head_at judged_range judged_ranges judged_rest
+    judged_node judged_at past_node then_skip skip_within skip_list with_frame open_node closed_node walk_from then_walk
+    walk_within walk_list walk_node block_of numbers_of tables_of opened_of halving chosen_from find_in entries
+    entries_of find_of symbol_at offset_at info_in info_at covered_by file_at sized_item item_front items_within
+    items_of read_items landing_at position_at call_at calls_at moved_up with_frames with_row with_code lookup_of
 returns c = record {
   innermost = refl;
   middle = refl;

@@ -1,4 +1,4 @@
--- `gsym_strtab::utf8::is_utf8` meets its contract. The invariant: all of the bytes are UTF-8 where those from `i` on are.
+-- `gsym_strtab::utf8::is_utf8` meets its contract. The invariant: all bytes are UTF-8 where those from `i` on are.
 -- Assumes nothing.
 use Rattle.std.proofs.Common.{ℕ, ◌+◌, List, ◌≡◌, refl, sym, ◌∙◌, drop, arith}
 use Rattle.gsym_strtab.specs.Utf8.{range, utf8}
@@ -21,7 +21,8 @@ returns-then-s-j c =
 pub returns-in_default : goal.returns-in_default
 returns-in_default c =
     let e =
-    sym (past _ _ c.loop-i.invariant c.run_end-j.ensures ∙ utf8-none _ _ c.if-s-j.false _ c.in_default.ensures.none refl) in
+    sym (past _ _ c.loop-i.invariant c.run_end-j.ensures
+    ∙ utf8-none _ _ c.if-s-j.false _ c.in_default.ensures.none refl) in
     record { exact = e; scalars = as-scalars _ _ e }
 
 pub overflow_add-i : goal.overflow_add-i
