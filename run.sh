@@ -9,7 +9,7 @@ mkdir -p target
 log=target/run.log
 : >"$log"
 echo "Proves and builds the library, gsym-addr2line and gsym, and resolves a sample crash. The first run proves every"
-echo "function below them, some 25 minutes of processor time; later ones take seconds. Log: $log"
+echo "function below them, some 8 minutes on four processors; later ones take seconds. Log: $log"
 make >"$log" 2>&1 &
 building=$!
 trap 'kill $building 2>/dev/null' INT TERM

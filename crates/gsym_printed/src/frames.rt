@@ -107,7 +107,7 @@ fn put_line(room: &mut [u8], at: usize, form: Form, line: LineNumber) -> usize
     if is_pretty(form) && line.0 == 0 {
         return put_str(room, at, "?");
     }
-    put_decimal(room, at, line.0 as u64)
+    put_decimal(room, at, u64::from(line.0))
 }
 
 #[tactic(auto, using(crate::proofs::Put::putting))]
@@ -229,7 +229,7 @@ fn put_refusal_line(room: &mut [u8], at: usize, refusal: Refusal) -> usize
     ensures { (room.new, result) ≡ put (room.old, at) (refusal_line refusal) }
 {
     let at = put_str(room, at, "?");
-    let at = put_decimal(room, at, refusal.number() as u64);
+    let at = put_decimal(room, at, u64::from(refusal.number()));
     let at = put_str(room, at, " ");
     let at = put_str(room, at, refusal_name(refusal));
     put_str(room, at, "\n")

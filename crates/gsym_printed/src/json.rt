@@ -98,7 +98,7 @@ fn put_position(room: &mut [u8], at: usize, file: &[u8], position: Option<Positi
     };
     let at = put_paths(room, at, file, position);
     let at = put_between(room, at, Part::Line);
-    put_decimal(room, at, position.line.0 as u64)
+    put_decimal(room, at, u64::from(position.line.0))
 }
 
 #[tactic(auto, using(crate::proofs::Put::putting), unfolding(crate::specs::Json::json_frame))]
@@ -152,7 +152,7 @@ fn put_start(room: &mut [u8], at: usize, n: u64, number: u8) -> usize
     let at = put_between(room, at, Part::Address);
     let at = put_hex(room, at, n);
     let at = put_between(room, at, Part::Number);
-    put_decimal(room, at, number as u64)
+    put_decimal(room, at, u64::from(number))
 }
 
 // Where the symbol starts, and its size.
@@ -163,7 +163,7 @@ fn put_symbol(room: &mut [u8], at: usize, answer: Answer) -> usize
     let at = put_between(room, at, Part::Start);
     let at = put_hex(room, at, answer.addr.0);
     let at = put_between(room, at, Part::Size);
-    put_decimal(room, at, answer.size as u64)
+    put_decimal(room, at, u64::from(answer.size))
 }
 
 // The answer to a known address.

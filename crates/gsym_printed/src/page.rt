@@ -56,7 +56,7 @@ pub(crate) fn put_decimal(room: &mut [u8], at: usize, n: u64) -> usize
     put_byte(room, at, b'0' + (n % 10) as u8)
 }
 
-// A digit below 16.
+// A digit below 16, which its caller gets by a remainder: no type has these 16 numbers.
 fn digit_byte(digit: u8) -> u8
     requires { digit < 16 }
     ensures { result ≡ digit_byte digit }

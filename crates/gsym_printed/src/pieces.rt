@@ -16,7 +16,7 @@ fn char_len(bytes: &[u8]) -> usize
     let Some(first) = bytes.first() else {
         return 0;
     };
-    let n = gsym_strtab::sequence_len(*first) as usize;
+    let n = usize::from(gsym_strtab::sequence_len(*first));
     if n <= bytes.len() && gsym_strtab::is_utf8(&bytes[..n]) {
         n
     } else {
@@ -24,7 +24,7 @@ fn char_len(bytes: &[u8]) -> usize
     }
 }
 
-// The length of the piece at the front.
+// The length of the piece at the front, of bytes that there are: no type of the kit says so of a slice.
 fn piece_len(bytes: &[u8]) -> usize
     requires { 0 < length bytes.now }
     ensures some { 0 < result }
@@ -73,18 +73,19 @@ fn is_mark(piece: &[u8]) -> bool
     }
 }
 
-// The number of such a character.
+// The number of such a character, which is a piece and no empty slice.
 #[tactic(auto, unfolding(crate::specs::Pieces::mark_number))]
 fn mark_number(piece: &[u8]) -> u64
     requires { 0 < length piece.now }
     ensures { result ≡ mark_number piece.now }
 {
     if piece.len() == 1 {
-        piece[0] as u64
+        u64::from(piece[0])
     } else if piece.len() == 2 {
-        piece[1] as u64
+        u64::from(piece[1])
     } else if piece.len() == 3 {
-        8192 + piece[1].saturating_sub(128) as u64 * 64 + piece[2].saturating_sub(128) as u64
+        8192 + u64::from(piece[1].saturating_sub(128)) * 64
+            + u64::from(piece[2].saturating_sub(128))
     } else {
         0
     }
@@ -100,7 +101,7 @@ fn put_escaped_byte(room: &mut [u8], at: usize, byte: u8) -> usize
     }
     if is_control(byte) {
         let at = put_str(room, at, "\\u");
-        return put_last_digits(room, at, 4, byte as u64);
+        return put_last_digits(room, at, 4, u64::from(byte));
     }
     if byte == b'"' || byte == b'\\' {
         let at = put_byte(room, at, b'\\');
@@ -109,7 +110,7 @@ fn put_escaped_byte(room: &mut [u8], at: usize, byte: u8) -> usize
     put_byte(room, at, byte)
 }
 
-// A piece in JSON.
+// A piece in JSON, which has a byte.
 #[tactic(auto, using(crate::proofs::Put::putting), unfolding(crate::specs::Pieces::escaped_piece))]
 fn put_escaped(room: &mut [u8], at: usize, piece: &[u8]) -> usize
     requires { 0 < length piece.now }
@@ -125,7 +126,7 @@ fn put_escaped(room: &mut [u8], at: usize, piece: &[u8]) -> usize
     put_bytes(room, at, piece)
 }
 
-// A piece in any form.
+// A piece in any form, which has a byte.
 fn put_piece(room: &mut [u8], at: usize, form: Form, piece: &[u8]) -> usize
     requires { 0 < length piece.now }
     ensures { (room.new, result) ≡ put (room.old, at) (piece_text form piece.now) }
@@ -159,7 +160,8 @@ fn bare_len(bytes: &[u8]) -> usize
     bytes.iter().take_while(|&&byte| is_bare(byte)).count()
 }
 
-// The front of a text, and the bytes after it: those that are shown as they are, at once, or a single piece.
+// The front of a text, and the bytes after it: those that are shown as they are, at once, or a single piece. Its caller
+// goes on while there are bytes.
 #[tactic(auto, using(crate::proofs::Showing::shown_turn, crate::proofs::Bare::shown_bare))]
 fn put_front<'a>(room: &mut [u8], at: usize, form: Form, bytes: &'a [u8]) -> (usize, &'a [u8])
     requires { 0 < length bytes.now }

@@ -54,10 +54,10 @@ fn asked_for(view: View, n: u64) -> Option<u64>
     ensures { result ≡ asked_for view n }
 {
     let a = n.checked_sub(view.base.0)?;
-    a.checked_sub(view.return_addresses as u64)
+    a.checked_sub(u64::from(view.return_addresses))
 }
 
-// The answer for an address that the user gave.
+// The answer for an address that the user gave. Its caller lends a list of 64, by which the room in its clause is 64.
 fn lookup_for(view: View, file: &[u8], n: u64, frames: &mut [Frame]) -> Result<Answer, Refusal>
     requires { length frames.old ≡ 64 }
     ensures { looked_up result (records_in result frames.new) ≡ lookup_for view file.now (asked_for view n) }

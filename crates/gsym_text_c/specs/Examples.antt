@@ -1,6 +1,6 @@
 -- What bits of a view ask for, written out (RULES, "What the tools print").
 -- Assumes nothing.
-use Rattle.std.specs.Prelude.{◌≡◌, ℕ, ◌-◌, ◌^◌, true, false}
+use Rattle.std.specs.Prelude.{◌≡◌, ◌-◌, ◌^◌, true, false}
 use Rattle.gsym_printed.specs.declared.view.Form.TheVariants.{Lines, Pretty, Json}
 use Rattle.gsym_printed.specs.declared.view.View.{View}
 use Rattle.gsym_text_c.specs.Texts.{view_of}

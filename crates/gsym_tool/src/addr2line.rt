@@ -1,10 +1,12 @@
 //! Answers to words and to standard input, as `gsym_printed` has them.
-ghost use Rattle.std.specs.Prelude.{◌≡◌, ◌↔◌, ◌&&◌, length, IsTrue, OnOk, IfOk, IfSome};
+ghost use Rattle.std.specs.Prelude.{◌≡◌, ◌↔◌, ◌<◌, ◌&&◌, length, IsTrue, OnOk, IfOk, IfErr, IfSome};
 ghost use Rattle.std.specs.List.{flat_map, list_all};
 ghost use Rattle.std.specs.Io.KnownBytes.{Appends, Keeps};
 ghost use Rattle.std.specs.Io.BufRead.{take_through, DropsThrough};
 ghost use Rattle.gsym_printed.specs.Answers.{answer_text, answers_text, outcome_of};
+ghost use Rattle.gsym_tool.specs.declared.trouble.Trouble.TheVariants.{Memory};
 ghost use Rattle.gsym_tool.specs.Known.{is_known_word, all_known};
+ghost use Rattle.gsym_tool.specs.Troubles.{IsOfInput, IsOfOutput, IsOfStreams};
 
 use super::files::symbols;
 use super::options::Answers;
@@ -21,6 +23,7 @@ const UNKNOWN: u8 = 1;
 fn fitting(room: Vec<u8>, view: View, file: &[u8], word: &[u8]) -> Result<(Vec<u8>, Outcome), usize>
     ensures text { IfOk result (λ t. t.0.items ≡ answer_text view file.now word.now) }
     ensures outcome { IfOk result (λ t. t.1 ≡ outcome_of view file.now word.now) }
+    ensures short { IfErr result (λ len. length room.items < len) }
 {
     let mut room = room;
     let printed = gsym_printed::answer(view, file, word, &mut room);
@@ -40,6 +43,7 @@ fn whole_answer(
 ) -> Result<(Vec<u8>, Outcome), Trouble>
     ensures text { IfOk result (λ t. t.0.items ≡ answer_text view file.now word.now) }
     ensures outcome { IfOk result (λ t. t.1 ≡ outcome_of view file.now word.now) }
+    ensures memory { IfErr result (λ trouble. trouble ≡ Memory) }
 {
     match fitting(vec![in alloc; 0u8; 512]?, view, file, word) {
         Ok(text) => Ok(text),
@@ -53,7 +57,8 @@ fn whole_answer(
 
 // Writes to standard output.
 fn put<W: Write>(out: &mut W, text: &[u8]) -> Result<(), Trouble>
-    ensures { OnOk result (Appends (W.contents out.old) (W.contents out.new) text.now) }
+    ensures text { OnOk result (Appends (W.contents out.old) (W.contents out.new) text.now) }
+    ensures output { IfErr result IsOfOutput }
 {
     match out.write_all(text) {
         Ok(()) => Ok(()),
@@ -80,6 +85,7 @@ fn answer_word<W: Write, E: Write>(
     ensures text { OnOk result (Appends (W.contents out.old) (W.contents out.new)
         (answer_text view file.now word.now)) }
     ensures known { IfOk result (λ known. known ≡ is_known_word view file.now word.now) }
+    ensures output { IfErr result IsOfOutput }
 {
     let (text, outcome) = whole_answer(alloc, view, file, word)?;
     if matches!(outcome, Outcome::NoAddress) {
@@ -108,6 +114,7 @@ fn answer_words<W: Write, E: Write>(
     ensures text { OnOk result (Appends (W.contents out.old) (W.contents out.new)
         (flat_map (λ w. answer_text view file.now w.items) words.now)) }
     ensures known { IfOk result (λ known. known ≡ list_all (λ w. is_known_word view file.now w.items) words.now) }
+    ensures output { IfErr result IsOfOutput }
 {
     let mut all = true;
     for word in words {
@@ -130,6 +137,7 @@ fn answer_line<W: Write, E: Write>(
     ensures text { OnOk result (Appends (W.contents out.old) (W.contents out.new)
         (answers_text view file.now line.now)) }
     ensures known { IfOk result (λ known. known ≡ all_known view file.now line.now) }
+    ensures output { IfErr result IsOfOutput }
 {
     let mut all = true;
     let mut rest = line;
@@ -147,6 +155,7 @@ fn answer_line<W: Write, E: Write>(
 fn next_line<R: BufRead>(input: &mut R, line: &mut Vec<u8>) -> Result<(), Trouble>
     ensures line { OnOk result (IfSome (R.remaining input.old) (λ xs. line.new.items ≡ take_through 10 xs)) }
     ensures rest { OnOk result (DropsThrough (R.remaining input.old) (R.remaining input.new) 10) }
+    ensures input { IfErr result IsOfInput }
 {
     line.clear();
     match input.read_until(10, line) {
@@ -175,6 +184,7 @@ fn answer_input<R: BufRead, W: Write, E: Write>(
     ensures text { OnOk result (IfSome (R.remaining input.old)
         (λ xs. Appends (W.contents out.old) (W.contents out.new) (answers_text view file.now xs))) }
     ensures known { IfOk result (λ known. IfSome (R.remaining input.old) (λ xs. known ≡ all_known view file.now xs)) }
+    ensures streams { IfErr result IsOfStreams }
 {
     let mut all = true;
     let mut line = Vec::new(alloc);
@@ -193,7 +203,8 @@ fn answer_input<R: BufRead, W: Write, E: Write>(
 }
 
 fn flush<W: Write>(out: &mut W) -> Result<(), Trouble>
-    ensures { Keeps (W.contents out.old) (W.contents out.new) }
+    ensures kept { Keeps (W.contents out.old) (W.contents out.new) }
+    ensures output { IfErr result IsOfOutput }
 {
     match out.flush() {
         Ok(()) => Ok(()),

@@ -1,4 +1,6 @@
 //! The words of the command line as bytes: a word need not be UTF-8. Those of an @FILE stand in its place.
+ghost use Rattle.std.specs.Prelude.{◌≡◌, ◌++◌, ◌∷◌, [], OnOk};
+
 use super::files::{copy, read_more};
 use super::trouble::Trouble;
 use std::alloc::{AllocError, Global};
@@ -25,11 +27,12 @@ fn argument(rt: &HostRuntime, place: usize) -> Result<Option<Vec<u8>>, Trouble> 
     Err(Trouble::Memory)
 }
 
-fn push(words: &mut Vec<Vec<u8>>, word: Vec<u8>) -> Result<(), AllocError> {
-    match words.push(word) {
-        Ok(()) => Ok(()),
-        Err(_) => Err(AllocError),
-    }
+/// One word more.
+pub fn push(words: &mut Vec<Vec<u8>>, word: Vec<u8>) -> Result<(), AllocError>
+    ensures { OnOk result (words.new.items ≡ words.old.items ++ word ∷ []) }
+{
+    words.push(word)?;
+    Ok(())
 }
 
 // What is read of a text with words in it.
@@ -110,15 +113,6 @@ fn push_words(alloc: Global, words: &mut Vec<Vec<u8>>, text: &[u8]) -> Result<()
     }
 }
 
-fn has_zero(text: &[u8]) -> bool {
-    for byte in text {
-        if *byte == 0 {
-            return true;
-        }
-    }
-    false
-}
-
 // The text of an @FILE; none where it can't be opened. No word can have a zero byte.
 fn file_text(rt: &HostRuntime, word: &[u8]) -> Result<Option<Vec<u8>>, Trouble> {
     let Some((first, name)) = word.split_first() else {
@@ -140,7 +134,7 @@ fn file_text(rt: &HostRuntime, word: &[u8]) -> Result<Option<Vec<u8>>, Trouble> 
     if text.len() > MOST {
         return Err(Trouble::File(copy(rt.alloc(), word)?, "more than 16 MiB of arguments"));
     }
-    if has_zero(&text) {
+    if text.contains(&0) {
         return Err(Trouble::File(copy(rt.alloc(), word)?, "a zero byte among the arguments"));
     }
     Ok(Some(text))

@@ -1,4 +1,10 @@
 //! Files, read whole up to a limit.
+ghost use Rattle.std.specs.Prelude.{◌≡◌, ◌↔◌, Some, IsOk, IfOk, IfErr, OnOk};
+ghost use Rattle.gsym_types.specs.declared.Refusal.{Refusal};
+ghost use Rattle.gsym_parser.specs.Header.{opened_of};
+ghost use Rattle.gsym_tool.specs.Files.{Refuses, HasStart};
+ghost use Rattle.gsym_tool.specs.Troubles.{IsOfFile};
+
 use super::trouble::Trouble;
 use gsym::{Address, Options, Refusal};
 use std::alloc::{AllocError, Global};
@@ -12,7 +18,9 @@ const MOST: usize = 1 << 30;
 const START: u64 = 6;
 
 /// Bytes of its own.
-pub fn copy(alloc: Global, bytes: &[u8]) -> Result<Vec<u8>, AllocError> {
+pub fn copy(alloc: Global, bytes: &[u8]) -> Result<Vec<u8>, AllocError>
+    ensures { IfOk result (λ list. list.items ≡ bytes.now) }
+{
     let mut list = Vec::new(alloc);
     list.extend_from_slice(bytes)?;
     Ok(list)
@@ -26,11 +34,10 @@ pub fn read_more(file: &File, limit: u64, bytes: &mut Vec<u8>) -> io::Result<()>
 }
 
 // Why a file, or its first bytes, is refused.
-fn refusal_of(file: &[u8]) -> Option<Refusal> {
-    match gsym::lookup(file, Address(0), Options::default(), &mut []) {
-        Err(refusal) => Some(refusal),
-        Ok(_) => None,
-    }
+fn refusal_of(file: &[u8]) -> Option<Refusal>
+    ensures { (r : Refusal) → (result ≡ Some r) ↔ Refuses file.now r }
+{
+    gsym::lookup(file, Address(0), Options::NAME, &mut []).err()
 }
 
 fn is_elf(file: &[u8]) -> bool {
@@ -42,7 +49,10 @@ fn is_swapped(file: &[u8]) -> bool {
 }
 
 // Magic and version, of which a lookup says 3 or 4 as soon as they are there, whatever else is missing.
-fn judge_start(alloc: Global, name: &[u8], file: &[u8]) -> Result<(), Trouble> {
+fn judge_start(alloc: Global, name: &[u8], file: &[u8]) -> Result<(), Trouble>
+    ensures start { OnOk result (HasStart file.now) }
+    ensures named { IfErr result (IsOfFile name.now) }
+{
     match refusal_of(file) {
         Some(Refusal::WrongMagic) => {
             let name = copy(alloc, name)?;
@@ -65,7 +75,11 @@ fn judge_start(alloc: Global, name: &[u8], file: &[u8]) -> Result<(), Trouble> {
 }
 
 // All bytes, once they are there.
-fn judge(alloc: Global, name: &[u8], file: &[u8]) -> Result<(), Trouble> {
+#[tactic(auto, using(crate::proofs::Opening::opens))]
+fn judge(alloc: Global, name: &[u8], file: &[u8]) -> Result<(), Trouble>
+    ensures opens { OnOk result (IsOk (opened_of file.now)) }
+    ensures named { IfErr result (IsOfFile name.now) }
+{
     if file.is_empty() {
         return Err(Trouble::File(copy(alloc, name)?, "the file is empty"));
     }
@@ -79,7 +93,9 @@ fn judge(alloc: Global, name: &[u8], file: &[u8]) -> Result<(), Trouble> {
 }
 
 // An error of reading a file, with the file's name.
-fn unread(alloc: Global, name: &[u8], error: io::Error) -> Trouble {
+fn unread(alloc: Global, name: &[u8], error: io::Error) -> Trouble
+    ensures { IsOfFile name.now result }
+{
     match copy(alloc, name) {
         Ok(name) => Trouble::Unread(name, error),
         Err(_) => Trouble::Memory,
@@ -92,14 +108,18 @@ fn read_named(
     file: &File,
     limit: u64,
     bytes: &mut Vec<u8>,
-) -> Result<(), Trouble> {
+) -> Result<(), Trouble>
+    ensures { IfErr result (IsOfFile name.now) }
+{
     match read_more(file, limit, bytes) {
         Ok(()) => Ok(()),
         Err(error) => Err(unread(alloc, name, error)),
     }
 }
 
-fn opened(rt: &HostRuntime, name: &[u8]) -> Result<File, Trouble> {
+fn opened(rt: &HostRuntime, name: &[u8]) -> Result<File, Trouble>
+    ensures { IfErr result (IsOfFile name.now) }
+{
     let alloc = rt.alloc();
     let Ok(path) = str::from_utf8(name) else {
         return Err(Trouble::File(
@@ -114,7 +134,10 @@ fn opened(rt: &HostRuntime, name: &[u8]) -> Result<File, Trouble> {
 }
 
 /// The bytes of a symbol file whose header and tables read. An endless one ends at once.
-pub fn symbols(rt: &HostRuntime, name: &[u8]) -> Result<Vec<u8>, Trouble> {
+pub fn symbols(rt: &HostRuntime, name: &[u8]) -> Result<Vec<u8>, Trouble>
+    ensures opens { IfOk result (λ bytes. IsOk (opened_of bytes.items)) }
+    ensures named { IfErr result (IsOfFile name.now) }
+{
     let alloc = rt.alloc();
     let file = opened(rt, name)?;
     let mut bytes = Vec::new(alloc);

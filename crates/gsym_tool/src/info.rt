@@ -1,4 +1,7 @@
 //! Header and tables of a file.
+ghost use Rattle.std.specs.Prelude.{◌≡◌};
+ghost use Rattle.gsym_tool.specs.Files.{uuid_of};
+
 use super::files::{copy, symbols};
 use super::options::Info;
 use super::trouble::Trouble;
@@ -14,7 +17,9 @@ const UUID: usize = 28;
 
 const UUID_MOST: usize = 20;
 
-fn uuid(file: &[u8]) -> &[u8] {
+fn uuid(file: &[u8]) -> &[u8]
+    ensures { result.now ≡ uuid_of file.now }
+{
     if file.len() < UUID + UUID_MOST {
         return &file[..0];
     }
@@ -51,7 +56,7 @@ fn push_json_table(text: &mut Vec<u8>, name: &str, place: usize, size: u64) -> i
 
 // What is told, as lines.
 fn push_lines(text: &mut Vec<u8>, file: &[u8], t: Tables) -> io::Result<()> {
-    let count = t.count as u64;
+    let count = u64::from(t.count);
     writeln!(text, "version            1")?;
     writeln!(text, "base address       0x{:x}", t.base.0)?;
     writeln!(text, "entry count        {count}")?;
@@ -62,14 +67,14 @@ fn push_lines(text: &mut Vec<u8>, file: &[u8], t: Tables) -> io::Result<()> {
         text,
         "address table      ",
         t.addrs,
-        count * t.offset_size as u64,
+        count * u64::from(t.offset_size),
     )?;
     push_table(text, "data offset table  ", t.offsets, count * 4)?;
     push_table(
         text,
         "file table         ",
         t.files,
-        t.file_count as u64 * 8,
+        u64::from(t.file_count) * 8,
     )?;
     push_table(
         text,
@@ -82,7 +87,7 @@ fn push_lines(text: &mut Vec<u8>, file: &[u8], t: Tables) -> io::Result<()> {
 
 // The same as one JSON object.
 fn push_json(text: &mut Vec<u8>, file: &[u8], t: Tables) -> io::Result<()> {
-    let count = t.count as u64;
+    let count = u64::from(t.count);
     write!(
         text,
         "{{\"version\":1,\"base_address\":\"0x{:x}\",\"entry_count\":{count}",
@@ -96,9 +101,14 @@ fn push_json(text: &mut Vec<u8>, file: &[u8], t: Tables) -> io::Result<()> {
     write!(text, ",\"build_id\":\"")?;
     push_build_id(text, uuid(file))?;
     write!(text, "\"")?;
-    push_json_table(text, "address_table", t.addrs, count * t.offset_size as u64)?;
+    push_json_table(
+        text,
+        "address_table",
+        t.addrs,
+        count * u64::from(t.offset_size),
+    )?;
     push_json_table(text, "data_offset_table", t.offsets, count * 4)?;
-    push_json_table(text, "file_table", t.files, t.file_count as u64 * 8)?;
+    push_json_table(text, "file_table", t.files, u64::from(t.file_count) * 8)?;
     push_json_table(text, "string_table", t.strings.place, t.strings.size as u64)?;
     writeln!(text, ",\"file_size\":{}}}", file.len())
 }

@@ -1,8 +1,11 @@
 //! What the words of the command line ask for.
+ghost use Rattle.std.specs.Prelude.{◌≡◌, ◌↔◌, IsTrue};
+
+use super::arguments::push;
 use super::files::copy;
 use super::trouble::Trouble;
 use gsym_printed::{Form, View};
-use std::alloc::{AllocError, Global};
+use std::alloc::Global;
 
 /// What `gsym addr2line` is asked for.
 #[derive(Drop)]
@@ -207,19 +210,12 @@ impl Parse {
         }
     }
 
-    fn push(&mut self, word: Vec<u8>) -> Result<(), AllocError> {
-        match self.words.push(word) {
-            Ok(()) => Ok(()),
-            Err(_) => Err(AllocError),
-        }
-    }
-
     fn word(&mut self, alloc: Global, word: Vec<u8>) -> Read {
         if let Some(setting) = self.wants {
             return self.value(setting, word);
         }
         if self.ended || word.len() < 2 || word[0] != b'-' {
-            self.push(word)?;
+            push(&mut self.words, word)?;
             return Ok(());
         }
         if word[1] != b'-' {
@@ -246,7 +242,9 @@ impl Parse {
     }
 }
 
-fn is_word(word: &[u8], text: &str) -> bool {
+fn is_word(word: &[u8], text: &str) -> bool
+    ensures { IsTrue result ↔ (word.now ≡ text.now) }
+{
     word == text.as_bytes()
 }
 

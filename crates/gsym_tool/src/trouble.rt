@@ -1,4 +1,9 @@
 //! Why no answer could be given, and how that is told.
+ghost use Rattle.std.specs.Prelude.{◌≡◌, ◌++◌, OnOk, IfOk, codes};
+ghost use Rattle.gsym_printed.specs.declared.view.Form.TheVariants.{Lines};
+ghost use Rattle.gsym_printed.specs.Pieces.{shown_text};
+ghost use Rattle.gsym_tool.specs.declared.trouble.Trouble.TheVariants.{Memory};
+
 use gsym::Refusal;
 use std::alloc::{AllocError, Global};
 use std::io::{self, Write};
@@ -38,20 +43,25 @@ impl Trouble {
 }
 
 impl From<AllocError> for Trouble {
-    ghost from_gives = { λ _ _. Unit {0} };
+    ghost from_gives = { λ _ trouble. trouble ≡ Memory };
 
     fn from(_error: AllocError) -> Trouble {
         Trouble::Memory
     }
 }
 
-fn push_str(line: &mut Vec<u8>, text: &str) -> io::Result<()> {
+fn push_str(line: &mut Vec<u8>, text: &str) -> io::Result<()>
+    ensures { OnOk result (line.new.items ≡ line.old.items ++ text.now) }
+{
     line.extend_from_slice(text.as_bytes())?;
     Ok(())
 }
 
 /// Bytes as they may be shown.
-pub fn push_shown(alloc: Global, line: &mut Vec<u8>, bytes: &[u8]) -> io::Result<()> {
+#[tactic(auto, using(crate::proofs::Whole::whole))]
+pub fn push_shown(alloc: Global, line: &mut Vec<u8>, bytes: &[u8]) -> io::Result<()>
+    ensures { OnOk result (line.new.items ≡ line.old.items ++ shown_text Lines bytes.now) }
+{
     let len = gsym_printed::shown_text(bytes, &mut []);
     let mut room = vec![in alloc; 0u8; len]?;
     let _ = gsym_printed::shown_text(bytes, &mut room);
@@ -59,7 +69,10 @@ pub fn push_shown(alloc: Global, line: &mut Vec<u8>, bytes: &[u8]) -> io::Result
     Ok(())
 }
 
-fn push_file(alloc: Global, line: &mut Vec<u8>, name: &[u8], why: &str) -> io::Result<()> {
+fn push_file(alloc: Global, line: &mut Vec<u8>, name: &[u8], why: &str) -> io::Result<()>
+    ensures { OnOk result
+        (line.new.items ≡ ((line.old.items ++ shown_text Lines name.now) ++ codes ": ") ++ why.now) }
+{
     push_shown(alloc, line, name)?;
     push_str(line, ": ")?;
     push_str(line, why)
@@ -100,7 +113,10 @@ pub fn told(alloc: Global, trouble: &Trouble) -> io::Result<Vec<u8>> {
 }
 
 /// A line that tells of a word that is no address.
-pub fn told_word(alloc: Global, word: &[u8]) -> io::Result<Vec<u8>> {
+pub fn told_word(alloc: Global, word: &[u8]) -> io::Result<Vec<u8>>
+    ensures { IfOk result (λ line.
+        line.items ≡ (codes "gsym: '" ++ shown_text Lines word.now) ++ codes "' is no address\n") }
+{
     let mut line = Vec::new(alloc);
     push_str(&mut line, "gsym: '")?;
     push_shown(alloc, &mut line, word)?;

@@ -1,6 +1,6 @@
 -- `gsym_linetab::quick::special_row` meets its contract: a byte times the factor, shifted, is the quotient.
 -- Assumes nothing.
-use Rattle.std.proofs.Common.{◌-◌, get_or, refl, rules, arith, FitsSigned, w64}
+use Rattle.std.proofs.Common.{refl, rules, arith, FitsSigned, w64}
 use Rattle.gsym_linetab.proofs.Quickly.{over-is, special-made}
 use Rattle.gsym_linetab.proofs.quick.special_row.Goals as goal
 

@@ -15,6 +15,7 @@ returns-then-is_nothing g c = record {
       known_end c.args.view c.args.file.now c.next_line.new.line.items (g.R.Read.remaining c.args.input.now)
       (g.R.Read.remaining c.loop-turn.input) c.loop-turn.all c.loop-turn.invariant.1 c.in_ok-next_line.ensures.line
       (rw c.as_slice-text.ensures.value at (c.is_nothing.ensures.0 c.if-is_nothing.true));
+  streams = tt;
 }
 
 pub loop-turn-preserved : goal.loop-turn-preserved
@@ -25,7 +26,7 @@ loop-turn-preserved g c = (
       (g.W.Write.contents c.answer_line.new.out)
       (g.W.Write.contents c.flush.new.out)
       c.loop-turn.invariant.0 c.in_ok-next_line.ensures.line c.in_ok-next_line.ensures.rest
-      (rw c.as_slice-text.ensures.value at c.in_ok-known.ensures.text) c.flush.ensures,
+      (rw c.as_slice-text.ensures.value at c.in_ok-known.ensures.text) c.flush.ensures.kept,
   known_step c.args.view c.args.file.now c.next_line.new.line.items (g.R.Read.remaining c.args.input.now)
       (g.R.Read.remaining c.loop-turn.input) (g.R.Read.remaining c.next_line.new.input) _ _ _
       c.loop-turn.invariant.1 c.in_ok-next_line.ensures.line c.in_ok-next_line.ensures.rest
