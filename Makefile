@@ -47,11 +47,12 @@ libgsym.a: $(SOURCES)
 	RT='$(RT)' sh tools/kit.sh
 	cd crates/gsym_c && $(RT) lib
 	cd crates/gsym_text_c && $(RT) lib
+	cd crates/gsym_check_c && $(RT) lib
 	rm -rf target/objects $@
 	mkdir -p target/objects
-	cd target/objects && for crate in gsym_c gsym_text_c; do \
+	cd target/objects && for crate in gsym_c gsym_text_c gsym_check_c; do \
 	    $(AR) x ../../crates/$$crate/out/lib$$crate.a || exit 1; done
-	$(AR) rcsD $@ target/objects/gsym_c.o target/objects/gsym_text_c.o
+	$(AR) rcsD $@ target/objects/gsym_c.o target/objects/gsym_text_c.o target/objects/gsym_check_c.o
 
 gsym: $(SOURCES)
 	RT='$(RT)' sh tools/kit.sh

@@ -1,9 +1,9 @@
 #!/bin/sh
-# Builds the bench's programs: `build.sh OUT [TREE]` puts line_whole, line_one, inline_whole, inline_one, lookup and stack
-# into OUT, and there the corpus' kernel file as vmlinux612.gsym. The libraries are those of this tree, which are proved
-# and built first, or of another checkout TREE, where they must have been built. Needs rustc, the sources of blazesym 0.2.6
-# (BLAZESYM_SRC, see tests/oracle/README.md), the corpus with vmlinux612.gsym.xz (GSYM_CORPUS), and xz; answers 3 and says
-# so where they are not there.
+# Builds the bench's programs: `build.sh OUT [TREE]` puts line_whole, line_one, inline_whole, inline_one, lookup, check
+# and stack into OUT, and there the corpus' kernel file as vmlinux612.gsym. The libraries are those of this tree, which
+# are proved and built first, or of another checkout TREE, where they must have been built. Needs rustc, the sources of
+# blazesym 0.2.6 (BLAZESYM_SRC, see tests/oracle/README.md), the corpus with vmlinux612.gsym.xz (GSYM_CORPUS), and xz;
+# answers 3 and says so where they are not there.
 set -eu
 cd "$(dirname "$0")/.."
 out=${1:?the folder to build in}
@@ -31,4 +31,7 @@ done
 rustc --edition 2021 -C opt-level=3 --crate-type rlib --crate-name gsym -o "$out/libgsym.rlib" bindings/rust/src/lib.rs
 rustc --edition 2021 -C opt-level=3 -L "$out/whole" --extern "oracle=$out/whole/liboracle.rlib" -L "$out" \
     --extern "gsym=$out/libgsym.rlib" -l static=gsym -o "$out/lookup" bench/lookup.rs
+ORACLE_FLAGS="--cfg walk" sh tests/oracle/build.sh "$out/walk"
+rustc --edition 2021 -C opt-level=3 -L "$out/walk" --extern "oracle=$out/walk/liboracle.rlib" -L "$out" \
+    --extern "gsym=$out/libgsym.rlib" -l static=gsym -o "$out/check" bench/check.rs
 rustc --edition 2021 -O -L "$out" -l static=reader_c -o "$out/stack" bench/stack.rs

@@ -46,6 +46,7 @@ for file in "$tmp/vmlinux612.gsym" "$corpus/cpp-gcc.gsym" "$corpus/rs-calc.gsym"
         row "$(basename "$file" .gsym), $kind" lookup "$file" "$kind"
     done
 done
+row "vmlinux612, check, the Rust a plain walk" check "$tmp/vmlinux612.gsym"
 row "tables without a row" lookup tables "tables without a row"
 row "line tables of one row" lookup rows "line tables of one row"
 row "names of two-byte letters" lookup letters "names of two-byte letters"

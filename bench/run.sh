@@ -37,6 +37,11 @@ for file in "$@"; do
 done | tee "$tmp/times"
 
 echo
+echo "the check of a whole file, vmlinux612, beside a plain walk of it by the Rust"
+"$tmp/check" "$tmp/vmlinux612.gsym" check
+"$tmp/check" "$tmp/vmlinux612.gsym" time "$passes"
+
+echo
 echo "instructions of one pass, of every tenth address where it looks up: the Rust, this, ratio"
 status=0
 sh bench/count.sh "$tree" >"$tmp/counts" || status=$?

@@ -1,14 +1,14 @@
 /*
  * gsym.h - what a GSYM symbol file says of an address: the function, its source position, the inlined calls; as
- * records, or as the text that a tool prints.
+ * records, or as the text that a tool prints. And the check of a whole file.
  * Version 0.2.0 of 2026-11-26, for x86-64 Linux, C11 or C++11. gsym(3) has an example; examples/handler.c is one for a
  * crash handler.
  *
  * Link with libgsym.a (`make`) or with the shared library (`pkg-config gsym`). The library has no state, takes no heap,
  * opens no file and never writes to the file's bytes. Every call ends, on any bytes, any address and any options. The
  * file and the texts may start at any address. What each call answers and what it leaves in lent memory is proved, not
- * only tested: docs/PROMISES.md says how, docs/RULES.md says in words what is answered. The two functions whose bodies
- * stand in this header are tested and not proved.
+ * only tested: docs/PROMISES.md says how, docs/RULES.md says in words what is answered. The three functions whose
+ * bodies stand in this header are tested and not proved.
  *
  * What is asked of the caller, all of it:
  *   - `file` has `file_len` readable bytes, which nobody writes and nobody takes away while a call reads them; so have
@@ -20,21 +20,22 @@
  *     call at a time.
  *   - A pointer may be null where its length is 0. No file, text or list has 2^63 bytes.
  *   - There is enough stack: below.
- * All else gets an answer or a refusal. Calls may run at the same time on as many threads as one likes, over the same
- * file too, each with a list of its own.
+ * All else gets an answer, a refusal or a finding. Calls may run at the same time on as many threads as one likes, over
+ * the same file too, each with a list of its own.
  *
  * Signal handlers: the calls are async-signal-safe. They take no lock, keep no state and touch no errno; all that the
  * library takes from elsewhere is memcpy and memset, which POSIX counts among the safe functions. Link the program with
  * -Wl,-z,now, as libgsym.so is linked: else the first call of a function, also of these two, may run the dynamic
- * linker, which takes stack of its own and may take a lock.
+ * linker, which takes stack of its own and may take a lock. gsym_check is safe too, and is not for a handler all the
+ * same: a file that was made to be slow keeps it long.
  *
  * Stack: a call needs GSYM_STACK bytes. A handler's own stack (sigaltstack) needs
  *     GSYM_STACK + sysconf(_SC_MINSIGSTKSZ) + what the handler's own frames and callees take
  * of which the second is what the system puts there for the signal (the constant MINSIGSTKSZ is too little on a
- * processor with wide registers). gsym_lookup takes less than 16,384 bytes, gsym_block_frames less than 12,288,
- * gsym_answer_text, which has the records of 64 frames on its stack, less than 24,576, and the others less than 2,048:
- * measured on trees of 64 levels and on refused ones of 65 (tests/c measures anew, and fails above). GSYM_STACK leaves
- * a margin of 8,192 above all of them.
+ * processor with wide registers). gsym_lookup takes less than 16,384 bytes, gsym_block_frames and gsym_check each less
+ * than 12,288, gsym_answer_text, which has the records of 64 frames on its stack, less than 24,576, and the others less
+ * than 2,048: measured on trees of 64 levels and on refused ones of 65 (tests/c measures anew, and fails above).
+ * GSYM_STACK leaves a margin of 8,192 above all of them.
  *
  * Layout: records and answers get fields as the format gets them. What they look like in memory has a number,
  * GSYM_LAYOUT, and each call that takes or hands back one of them stands in the library under a name with that number:
@@ -42,7 +43,7 @@
  * isn't loaded, and never overwrites memory. What holds:
  *   - a change of a struct, of its order or of a call's arguments raises GSYM_LAYOUT, and with it the name of the
  *     shared library (libgsym.so.0.2 is layout 2): recompile;
- *   - within a layout calls, option bits and refusal numbers may be added, and nothing is taken away;
+ *   - within a layout calls, option bits and numbers of refusals and findings may be added, and nothing is taken away;
  *   - gsym_version has no layout: it can be asked of any library. Neither have gsym_shown_text and gsym_refusal_text,
  *     which take and hand back no struct.
  *
@@ -64,6 +65,7 @@
 #define GSYM_LAYOUT 2
 #define gsym_lookup gsym_lookup_2
 #define gsym_block_frames gsym_block_frames_2
+#define gsym_check gsym_check_2
 #define gsym_answer_text gsym_answer_text_2
 #define gsym_next_word gsym_next_word_2
 #define gsym_address_of gsym_address_of_2
@@ -98,6 +100,15 @@ enum {
     GSYM_CALL_FILE_TOO_LARGE = 12,  /* a call file above 4,294,967,295 */
     GSYM_TOO_DEEP = 13,             /* inlined calls on more than 64 levels */
     GSYM_TOO_MANY_FRAMES = 14       /* more frames than there is room for */
+};
+
+/* ---- what a check finds beside refusal numbers. A later library may have more: any number but 0 is a finding ---- */
+enum {
+    GSYM_OFFSET_SIZE = 20,     /* an offset size other than 1, 2, 4 and 8 */
+    GSYM_NOT_RISING = 21,      /* the address table doesn't rise here */
+    GSYM_SUM_TOO_LARGE = 22,   /* the symbol ends above 2^64-1 */
+    GSYM_STOPPED_PROGRAM = 23, /* a line program is stopped */
+    GSYM_OPEN_LIST = 24        /* the address data list doesn't end in type 0 */
 };
 
 /* ---- what is asked for: bits of `options`. The others are reserved: they refuse nothing, and promise nothing ---- */
@@ -144,11 +155,18 @@ typedef struct gsym_listed {
     uint32_t number;
 } gsym_listed;
 
+/* What gsym_check answers. number 0: the file passes; else what was found first. */
+typedef struct gsym_finding {
+    uint32_t number;
+    uint32_t entry; /* of 5 and 6, 9 to 13, 21 to 24: the lowest faulty entry, from 0 on; else 0, which says nothing */
+} gsym_finding;
+
 GSYM_ASSERT(sizeof(size_t) == 8, "a host with 64-bit sizes");
 GSYM_ASSERT(sizeof(gsym_text) == 16, "gsym_text");
 GSYM_ASSERT(sizeof(gsym_frame) == 56 && offsetof(gsym_frame, line) == 48, "gsym_frame");
 GSYM_ASSERT(sizeof(gsym_inline_frame) == 12 && offsetof(gsym_inline_frame, call_line) == 8, "gsym_inline_frame");
 GSYM_ASSERT(sizeof(gsym_listed) == 16 && offsetof(gsym_listed, number) == 8, "gsym_listed");
+GSYM_ASSERT(sizeof(gsym_finding) == 8 && offsetof(gsym_finding, entry) == 4, "gsym_finding");
 GSYM_ASSERT(sizeof(gsym_answer) == 80 && offsetof(gsym_answer, addr) == 8 && offsetof(gsym_answer, line) == 20 &&
                 offsetof(gsym_answer, name) == 24 && offsetof(gsym_answer, count) == 72,
             "gsym_answer");
@@ -180,6 +198,25 @@ gsym_answer gsym_lookup(const uint8_t *file, size_t file_len, uint64_t addr, uin
  */
 gsym_listed gsym_block_frames(const uint8_t *block, size_t block_len, uint64_t symbol, uint64_t addr,
                               gsym_inline_frame *frames, size_t frames_len);
+
+/*
+ * The check of a whole file, before it is shipped: docs/RULES.md, "Checking a file".
+ *   file, file_len        the bytes of the symbol file
+ * It passes (0) exactly if it opens; its offset size is 1, 2, 4 or 8; its address table strictly rises; no symbol ends
+ * above 2^64-1; and of each entry the information and the name read, the address data list ends in type 0, and each
+ * line table and each inline tree in it reads in full, also where a lookup would pass it over. Findings:
+ *   2, 3, 4, 20                 of the tables; entry is 0
+ *   5, 6, 9 to 13, 21 to 24     of the lowest faulty entry, its first fault
+ * In a file that passes a lookup without GSYM_CODE_INFO is answered, or refused with 1, at any address; one with it may
+ * also be refused with 7 and 8, and with GSYM_INLINING too with 6 and 14: the file indexes, the strings of the file
+ * table and the names of inlined calls are not judged, nor how many frames there are. Neither are items of other types
+ * judged, what follows the end of a list, a program or a tree, and what no entry names.
+ * The time is linear in the bytes that the entries name: a kernel's file of 20 MiB took 44 ms (bench/README.md). But
+ * entries may share a name or a list, and it is read for each: in a file that was made to be slow every entry names one
+ * nearly as long as the file, and the time grows with the number of entries times the file's length. So a file of which
+ * nothing is known is checked where that does no harm, and not in a signal handler.
+ */
+gsym_finding gsym_check(const uint8_t *file, size_t file_len);
 
 /* ---- texts: what a tool prints of an address, docs/RULES.md, "What the tools print" ----
  *
@@ -295,6 +332,24 @@ static inline const char *gsym_refusal_name(uint32_t number)
         "more frames than there is room for",
     };
     return number < sizeof names / sizeof names[0] ? names[number] : 0;
+}
+
+/* What a check found, in words; a null pointer for a number that no check of this header gives (1, 7, 8 and 14 among
+ * them): test it before it is printed, since a later library may find others. */
+static inline const char *gsym_finding_name(uint32_t number)
+{
+    static const char *const names[] = {
+        "an offset size other than 1, 2, 4 and 8",
+        "the address table doesn't rise here",
+        "the symbol ends above 2^64-1",
+        "a line program is stopped",
+        "the address data list doesn't end in type 0",
+    };
+    if (number == 0)
+        return "passed";
+    if ((number >= 2 && number <= 6) || (number >= 9 && number <= 13))
+        return gsym_refusal_name(number);
+    return number >= 20 && number - 20 < sizeof names / sizeof names[0] ? names[number - 20] : 0;
 }
 
 #ifdef __cplusplus

@@ -91,7 +91,10 @@ grep -q "^Version: $version$" "$tmp/root/usr/lib/pkgconfig/gsym.pc" || fail "gsy
 # ---- a program, by what is installed
 cat >"$tmp/build/program.c" <<'END'
 #include <gsym.h>
-int main(void) { return gsym_lookup(0, 0, 0, 0, 0, 0).number == GSYM_TOO_FEW_BYTES ? 0 : 1; }
+int main(void)
+{
+    return gsym_lookup(0, 0, 0, 0, 0, 0).number != GSYM_TOO_FEW_BYTES || gsym_check(0, 0).number != GSYM_TOO_FEW_BYTES;
+}
 END
 root=$tmp/root/usr
 bare cc -I"$root/include" -o static program.c "$root/lib/libgsym.a" || fail "a program doesn't link with libgsym.a"

@@ -1,6 +1,6 @@
 #!/bin/sh
 # The replay programs can fail: given a vector of each kind with another expected answer, each reports that one and no
-# other. Needs the programs of the crates reader_cases and lookup_cases, which `rt ci` and `rt run` build.
+# other. Needs the programs of the crates reader_cases, lookup_cases and check_cases, which `rt ci` and `rt run` build.
 set -u
 cd "$(dirname "$0")/.." || exit 2
 tmp=$(mktemp -d) || exit 2
@@ -73,3 +73,19 @@ END {
     print "# right 2 wrong " wrong
 }' crates/lookup_cases/stdin >"$tmp/lookup_cases"
 replay lookup_cases "in each number of a line, in a record too few and too many, and in the file"
+
+# of each number the first case: right, then with the number and with the entry raised; a file cut, and no case
+awk "$raised"'
+!/^#/ && !seen[$1]++ {
+    print
+    right++
+    print raised($1), $2, $3; wrong++
+    print $1, raised($2), $3; wrong++
+}
+$1 == "0" && !file { file = $3 }
+END {
+    print "0 0", substr(file, 1, 80); wrong++
+    print "X 0"; wrong++
+    print "# right " right " wrong " wrong
+}' crates/check_cases/stdin >"$tmp/check_cases"
+replay check_cases "in the number, in the entry, and in the file"

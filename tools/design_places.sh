@@ -18,7 +18,7 @@ later='^crates/gsym_(printed|tool|text_c)/'
 # code PATTERN: the lines of src/ that the pattern finds, comments left out
 code() { grep -rnE "$1" crates/*/src --include='*.rt' | grep -vE '^[^:]*:[0-9]+: *//' | grep -vE "$later"; }
 # in_libraries: of these only those of libraries; the programs and the caller are left out
-in_libraries() { grep -vE '^crates/(reader_cases|lookup_cases|gsym_caller)/'; }
+in_libraries() { grep -vE '^crates/(reader_cases|lookup_cases|check_cases|gsym_caller)/'; }
 # functions: FILE:LINE:NAME of every function
 functions() { code '^ *(pub(\([a-z]+\))? )?(const )?(unsafe )?(extern "C" )?fn [a-z]' | sed -E 's/^([^:]*:[0-9]+):.*fn ([a-z0-9_]+).*/\1:\2/'; }
 # types WITHOUT: structs and enums whose derives lack the word

@@ -400,6 +400,221 @@ static void blocks(void)
     }
 }
 
+/* ---- the check of a whole file */
+
+/* the bytes are lent read-only, up to a page that can't be touched and from other starts, and stay */
+static gsym_finding check_bytes(const uint8_t *bytes, size_t len)
+{
+    gsym_finding first = {0, 0};
+    for (size_t gap = 0; gap < 8; gap++) {
+        const uint8_t *file = lend(bytes, len, gap);
+        gsym_finding f = gsym_check(file, len);
+        CHECK(len == 0 || memcmp(file, bytes, len) == 0);
+        if (gap == 0)
+            first = f;
+        CHECK(f.number == first.number && f.entry == first.entry);
+    }
+    return first;
+}
+
+static int finds(const made *m, uint32_t number, uint32_t entry)
+{
+    gsym_finding f = check_bytes(m->at, m->len);
+    return f.number == number && f.entry == entry;
+}
+
+/* the sample with some bytes changed */
+static int found_changed(size_t place, uint64_t value, int bytes, uint32_t number, uint32_t entry)
+{
+    other = sample;
+    put_over(&other, place, value, bytes);
+    return finds(&other, number, entry);
+}
+
+/* the sample's file with other lines and the sample's block, or the sample's lines and another block */
+static int found_lines(const void *lines, size_t len, uint32_t number)
+{
+    block.len = 0;
+    put_inlined(&block);
+    put_file(&other, lines, len, block.at, block.len);
+    return finds(&other, number, 0);
+}
+
+static int found_block(const made *b, uint32_t number)
+{
+    put_file(&other, made_lines, sizeof made_lines, b->at, b->len);
+    return finds(&other, number, 0);
+}
+
+static void check_of_tables(const places *p)
+{
+    gsym_finding f = gsym_check(0, 0);
+    CHECK(f.number == GSYM_TOO_FEW_BYTES && f.entry == 0);
+    CHECK(finds(&sample, 0, 0));
+    CHECK(found_changed(0, 0x4d595347, 4, GSYM_WRONG_MAGIC, 0));
+    CHECK(found_changed(4, 2, 2, GSYM_WRONG_VERSION, 0));
+    CHECK(found_changed(24, sizeof made_strings + 1000, 4, GSYM_TOO_FEW_BYTES, 0));
+    for (uint64_t width = 0; width < 256; width++) {
+        other = sample;
+        put_over(&other, 6, width, 1);
+        f = check_bytes(other.at, other.len);
+        if (width == 2)
+            CHECK(f.number == 0);
+        else if (width == 1 || width == 4 || width == 8) /* other tables: what is found of them is not said here */
+            CHECK(f.number != GSYM_OFFSET_SIZE);
+        else /* a table of so wide entries may end behind the file */
+            CHECK((f.number == GSYM_OFFSET_SIZE || f.number == GSYM_TOO_FEW_BYTES) && f.entry == 0);
+    }
+    CHECK(found_changed(6, 3, 1, GSYM_OFFSET_SIZE, 0));
+    /* with no entry the file passes if its tables do */
+    for (uint64_t width = 0; width < 256; width++) {
+        other.len = 0;
+        put(&other, 0x4753594d, 4);
+        put(&other, 1, 2);
+        put(&other, width, 1);
+        put(&other, 0, 45);
+        CHECK(finds(&other, width == 1 || width == 2 || width == 4 || width == 8 ? 0 : GSYM_OFFSET_SIZE, 0));
+    }
+    /* cut: no prefix passes before its lists end, and the length of type 0 is not judged */
+    for (size_t n = 0; n <= sample.len; n++) {
+        other = sample;
+        other.len = n;
+        f = check_bytes(other.at, other.len);
+        if (n < p->tables_end)
+            CHECK(f.number == GSYM_TOO_FEW_BYTES && f.entry == 0);
+        else if (n < p->info + 8)
+            CHECK(f.number == GSYM_UNREAD_INFO && f.entry == 0);
+        else if (n < p->items_end + 4)
+            CHECK(f.number == GSYM_OPEN_LIST && f.entry == 0);
+        else
+            CHECK(f.number == 0 && f.entry == 0);
+    }
+    CHECK(found_changed(p->items_end + 4, UINT32_MAX, 4, 0, 0));
+}
+
+static void check_of_entries(const places *p)
+{
+    size_t plain = p->tables_end, last = plain + 16;
+    /* the address table: 0, 0x100, 0x200, of two bytes each; of two neighbours the later is the faulty one */
+    CHECK(found_changed(48, 0x100, 2, GSYM_NOT_RISING, 1));
+    CHECK(found_changed(48, 0x1ff, 2, GSYM_NOT_RISING, 1));
+    CHECK(found_changed(52, 0xff, 2, GSYM_NOT_RISING, 2));
+    CHECK(found_changed(50, 0x200, 2, GSYM_NOT_RISING, 2));
+    CHECK(found_changed(50, 0xffff, 2, GSYM_NOT_RISING, 2));
+    for (uint32_t k = 0; k < 3; k++) {
+        CHECK(found_changed(p->offsets + 4 * k, UINT32_MAX, 4, GSYM_UNREAD_INFO, k));
+        CHECK(found_changed(p->offsets + 4 * k, sample.len - 7, 4, GSYM_UNREAD_INFO, k));
+    }
+    /* base and entry and size: the last is 0x200 on, with size 0; up to 2^64-1 all is well */
+    CHECK(found_changed(8, UINT64_MAX - 0x200, 8, 0, 0));
+    CHECK(found_changed(8, UINT64_MAX - 0x1ff, 8, GSYM_SUM_TOO_LARGE, 2));
+    CHECK(found_changed(8, UINT64_MAX - 0xff, 8, GSYM_SUM_TOO_LARGE, 0));
+    other = sample;
+    put_over(&other, 8, UINT64_MAX - 0x200, 8);
+    put_over(&other, last, 1, 4);
+    CHECK(finds(&other, GSYM_SUM_TOO_LARGE, 2));
+    put_over(&other, last + 4, S_PAST, 4); /* before the name */
+    CHECK(finds(&other, GSYM_SUM_TOO_LARGE, 2));
+    put_over(&other, plain + 4, S_PAST, 4); /* but a lower entry before it */
+    CHECK(finds(&other, GSYM_UNREAD_NAME, 1));
+    CHECK(found_changed(p->info + 4, S_PAST, 4, GSYM_UNREAD_NAME, 0));
+    CHECK(found_changed(plain + 4, S_BAD, 4, GSYM_UNREAD_NAME, 1));
+    CHECK(found_changed(last + 4, S_BAD, 4, GSYM_UNREAD_NAME, 2));
+    /* a list that doesn't end: an item of any type and too long */
+    CHECK(found_changed(plain + 8, 77, 4, 0, 0)); /* of length 0: the next is of type 0, at the start of the last */
+    CHECK(found_changed(p->info + 12, UINT32_MAX, 4, GSYM_OPEN_LIST, 0));
+    CHECK(found_changed(p->items_end, 77, 4, GSYM_OPEN_LIST, 0));
+    CHECK(found_changed(p->line_item + 4, UINT32_MAX, 4, GSYM_OPEN_LIST, 0));
+    /* judged is not what a lookup alone meets: file indices, and the strings of the file table */
+    CHECK(found_changed(p->files - 4, 1, 4, 0, 0));
+    CHECK(found_changed(p->files + 8, S_PAST, 4, 0, 0));
+    CHECK(found_changed(p->files + 12, S_PAST, 4, 0, 0));
+    /* an item of a type that is not judged */
+    CHECK(found_changed(p->inline_item, 3, 4, 0, 0));
+}
+
+static void check_of_items(void)
+{
+    static const uint8_t torn[] = {0x80}, still[] = {0x7c, 10, 10, 8, 70, 196}, behind[] = {0x7c, 10, 10, 0, 0x80};
+    static const uint8_t no_range[] = {0, 0x7f, 10, 4}, no_operand[] = {0x7c, 10, 10, 2};
+    static const uint8_t cut[] = {0x7c, 10, 10, 3, 0x80};
+    static const uint8_t too_wide[] = {0x7c, 10, 10, 1, 255, 255, 255, 255, 255, 255, 255, 255, 255, 2};
+    CHECK(found_lines(torn, 1, GSYM_UNREAD_LINE_HEADER));
+    CHECK(found_lines(torn, 0, GSYM_UNREAD_LINE_HEADER));
+    CHECK(found_lines(still, sizeof still, 0)); /* the end of the bytes ends it */
+    CHECK(found_lines(behind, sizeof behind, 0));
+    CHECK(found_lines(no_range, sizeof no_range, GSYM_STOPPED_PROGRAM));
+    CHECK(found_lines(no_operand, sizeof no_operand, GSYM_STOPPED_PROGRAM));
+    CHECK(found_lines(cut, sizeof cut, GSYM_STOPPED_PROGRAM));
+    CHECK(found_lines(too_wide, sizeof too_wide, GSYM_STOPPED_PROGRAM));
+    /* of two faults in the items the first is told */
+    put_file(&other, no_range, sizeof no_range, torn, 1);
+    CHECK(finds(&other, GSYM_STOPPED_PROGRAM, 0));
+    put_file(&other, made_lines, sizeof made_lines, torn, 1);
+    CHECK(finds(&other, GSYM_UNREAD_INLINE, 0));
+
+    block.len = 0;
+    CHECK(found_block(&block, GSYM_UNREAD_INLINE));
+    put_node(&block, 0, 32, 1, S_OUTER, 0, 0); /* its children don't end */
+    CHECK(found_block(&block, GSYM_UNREAD_INLINE));
+    put_uleb(&block, 0);
+    CHECK(found_block(&block, 0));
+    put(&block, 0x80, 1); /* what is behind the root is not judged */
+    CHECK(found_block(&block, 0));
+
+    block.len = 0;
+    put_node(&block, UINT64_MAX - 0xfff, 8, 0, S_OUTER, 1, 1);
+    CHECK(found_block(&block, GSYM_INLINE_SUM_TOO_LARGE));
+    block.len = 0;
+    put_node(&block, 0, UINT64_MAX - 0x1000, 0, S_OUTER, 1, 1); /* up to 2^64-1 */
+    CHECK(found_block(&block, 0));
+    /* a node far from any address is judged too, and below one that contains none */
+    block.len = 0;
+    put_node(&block, 1000, 8, 1, 0, 0, 0);
+    put_node(&block, 0, 8, 0, S_PAST, (uint64_t)UINT32_MAX + 1, 1);
+    put_uleb(&block, 0);
+    CHECK(found_block(&block, GSYM_CALL_FILE_TOO_LARGE));
+    /* file, name and line of a call are not */
+    block.len = 0;
+    put_node(&block, 0, 32, 0, S_PAST, UINT32_MAX, UINT64_MAX);
+    CHECK(found_block(&block, 0));
+    /* 64 levels fit, and 65 don't, however many of them are open */
+    for (int open = 0; open <= 64; open += 32) {
+        block.len = 0;
+        put_levels(&block, 64, open, S_MID);
+        CHECK(found_block(&block, 0));
+        block.len = 0;
+        put_levels(&block, 65, open, S_MID);
+        CHECK(found_block(&block, GSYM_TOO_DEEP));
+    }
+    /* any number of frames: there is no room for them to exceed */
+    block.len = 0;
+    put_node(&block, 0, 32, 1, 0, 0, 0);
+    for (int i = 0; i < 200; i++)
+        put_node(&block, 0, 32, 0, S_MID, 1, 1);
+    put_uleb(&block, 0);
+    CHECK(found_block(&block, 0));
+    CHECK(is_refusal(with_block(&block, 0x1005), GSYM_TOO_MANY_FRAMES));
+}
+
+static void finding_names(void)
+{
+    static const char *const own[] = {"an offset size other than 1, 2, 4 and 8", "the address table doesn't rise here",
+                                      "the symbol ends above 2^64-1", "a line program is stopped",
+                                      "the address data list doesn't end in type 0"};
+    CHECK(strcmp(gsym_finding_name(0), "passed") == 0);
+    for (uint32_t n = 1; n <= 300; n++) {
+        const char *name = gsym_finding_name(n);
+        if ((n >= 2 && n <= 6) || (n >= 9 && n <= 13))
+            CHECK(name != 0 && strcmp(name, gsym_refusal_name(n)) == 0);
+        else if (n >= GSYM_OFFSET_SIZE && n <= GSYM_OPEN_LIST)
+            CHECK(name != 0 && strcmp(name, own[n - GSYM_OFFSET_SIZE]) == 0 && gsym_refusal_name(n) == 0);
+        else
+            CHECK(name == 0);
+    }
+    CHECK(gsym_finding_name(UINT32_MAX) == 0);
+}
+
 static void words_and_texts(void)
 {
     static const uint8_t bytes[4] = {'a', 'b', 'c', 'd'};
@@ -641,6 +856,10 @@ int main(void)
     if (before == 0)
         return 2;
     words_and_texts();
+    finding_names();
+    check_of_tables(&p);
+    check_of_entries(&p);
+    check_of_items();
     answer_texts();
     every_view();
     shown_texts();

@@ -117,6 +117,7 @@ fi
 layout=$(sed -n 's/^#define GSYM_LAYOUT \([0-9]*\)$/\1/p' include/gsym.h)
 sort >"$tmp/want" <<END
 gsym_block_frames_$layout
+gsym_check_$layout
 gsym_lookup_$layout
 gsym_answer_text_$layout
 gsym_next_word_$layout

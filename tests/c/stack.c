@@ -19,8 +19,9 @@
 
 enum { STACK = 1 << 20, PAINT = 0xa5 };
 
-/* what include/gsym.h says of gsym_lookup, gsym_block_frames, gsym_answer_text and the others */
-static const size_t said[4] = {16384, 12288, 24576, 2048};
+/* what include/gsym.h says of gsym_lookup, gsym_block_frames, gsym_answer_text, gsym_check and the others */
+static const size_t said[5] = {16384, 12288, 24576, 12288, 2048};
+enum { LOOKUP, FRAMES, TEXT, CHECK, OTHERS };
 /* and by how much GSYM_STACK is more than the largest */
 enum { MARGIN = 8192 };
 
@@ -39,15 +40,18 @@ static uint8_t *top;
 
 static void call(void)
 {
-    if (which == 0) {
+    if (which == LOOKUP) {
         uint32_t options = GSYM_CODE_INFO | GSYM_INLINING;
         gsym_answer a = gsym_lookup(file.at, file.len, 0x1005, options, records, GSYM_MAX_FRAMES);
         count = a.count, number = a.number;
-    } else if (which == 2) {
+    } else if (which == TEXT) {
         static const uint8_t word[] = "1005";
         static uint8_t room[65536];
         number = gsym_answer_text(file.at, file.len, view, 0, word, 4, room, sizeof room).number;
-    } else if (which == 3) {
+    } else if (which == CHECK) {
+        gsym_finding f = gsym_check(file.at, file.len);
+        count = f.entry, number = f.number;
+    } else if (which == OTHERS) {
         static const uint8_t text[] = "ab\x1b\xc2\x85\xe2\x80\xae\xe2\x80\xf0\x9f\x98\x80 \xff";
         static uint8_t room[64];
         const char *name = gsym_refusal_name(GSYM_UNKNOWN_ADDRESS);
@@ -112,9 +116,9 @@ int main(int argc, char **argv)
 {
     if (argc >= 3)
         return write_file(atoi(argv[1]), argv[2], argc > 3 ? argv[3] : 0);
-    which = 3;
-    size_t most[4] = {0, 0, 0, used()};
-    int at[3] = {0, 0, 0};
+    which = OTHERS;
+    size_t most[5] = {0, 0, 0, 0, used()};
+    int at[4] = {0, 0, 0, 0};
     if (number != 0) {
         printf("stack.c: a text has another length\n");
         return 1;
@@ -124,24 +128,27 @@ int main(int argc, char **argv)
             block.len = 0;
             put_levels(&block, levels, open, S_MID);
             put_file(&file, made_lines, sizeof made_lines, block.at, block.len);
-            for (int k = 0; k < 2 + VIEWS; k++) {
-                which = k < 2 ? k : 2;
-                view = k < 2 ? 0 : views[k - 2];
+            for (int k = 0; k < 3 + VIEWS; k++) {
+                which = k < VIEWS ? TEXT : k == VIEWS ? LOOKUP : k == VIEWS + 1 ? FRAMES : CHECK;
+                view = k < VIEWS ? views[k] : 0;
                 size_t bytes = used();
                 if (most[which] < bytes)
                     most[which] = bytes, at[which] = levels;
-                uint64_t want = (uint64_t)(levels > 64 ? 0 : which == 0 && open > 0 ? open - 1 : open);
-                if (number != (levels > 64 ? GSYM_TOO_DEEP : GSYM_FOUND) || (which < 2 && count != want)) {
-                    printf("stack.c: %d of %d levels open gave %d, %d records\n", open, levels, (int)number,
-                           (int)count);
+                uint64_t want = (uint64_t)(levels > 64 || which == CHECK  ? 0
+                                           : which == LOOKUP && open > 0 ? open - 1
+                                                                         : open);
+                if (number != (levels > 64 ? GSYM_TOO_DEEP : GSYM_FOUND) || (which != TEXT && count != want)) {
+                    printf("stack.c: %d of %d levels open gave %d, and %d records or entry %d\n", open, levels,
+                           (int)number, (int)count, (int)count);
                     return 1;
                 }
             }
         }
     printf("stack: gsym_lookup %zu bytes (%d levels), gsym_block_frames %zu (%d), gsym_answer_text %zu (%d), "
-           "others %zu, GSYM_STACK %d\n",
-           most[0], at[0], most[1], at[1], most[2], at[2], most[3], GSYM_STACK);
-    for (int k = 0; k < 4; k++)
+           "gsym_check %zu (%d), others %zu, GSYM_STACK %d\n",
+           most[LOOKUP], at[LOOKUP], most[FRAMES], at[FRAMES], most[TEXT], at[TEXT], most[CHECK], at[CHECK],
+           most[OTHERS], GSYM_STACK);
+    for (int k = 0; k < 5; k++)
         if (most[k] >= said[k] || GSYM_STACK < said[k] + MARGIN)
             return 1;
     return 0;

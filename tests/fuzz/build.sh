@@ -52,13 +52,14 @@ done
 exec '$kit/toolchain/bin/clang' "\$@" -fsanitize-coverage=inline-8bit-counters,pc-table,trace-cmp -fsanitize=address
 EOF
     sh tests/with_clang.sh "$out/clang" "$out/libgsym_counted.a" &&
-        sh tests/with_clang.sh "$out/clang" "$out/libgsym_text_counted.a" gsym_text_c
+        sh tests/with_clang.sh "$out/clang" "$out/libgsym_text_counted.a" gsym_text_c &&
+        sh tests/with_clang.sh "$out/clang" "$out/libgsym_check_counted.a" gsym_check_c
 }
 
 # built anew only where the library, this script or the kit is another
 stamp=$(cat "$library" "$here/build.sh" tests/with_clang.sh "$kit/KIT-ID" 2>/dev/null | sha256sum)
-if [ "$stamp" != "$(cat "$out/stamp" 2>/dev/null)" ] || [ ! -f "$out/libgsym_text_counted.a" ]; then
-    rm -f "$out/libgsym_counted.a" "$out/libgsym_text_counted.a" "$out/stamp"
+if [ "$stamp" != "$(cat "$out/stamp" 2>/dev/null)" ] || [ ! -f "$out/libgsym_check_counted.a" ]; then
+    rm -f "$out/libgsym_counted.a" "$out/libgsym_text_counted.a" "$out/libgsym_check_counted.a" "$out/stamp"
     with_counters >"$out/log" 2>&1 && echo "$stamp" >"$out/stamp"
     rm -f "$out/clang" "$out/module.ll" "$out/module.plain.ll"
 fi
@@ -73,10 +74,11 @@ target() {
 }
 how="the library has counters and AddressSanitizer; the C side has sanitizers and no counters"
 over_counters() {
-    [ -f "$out/libgsym_text_counted.a" ] || return 1
+    [ -f "$out/libgsym_check_counted.a" ] || return 1
     # shellcheck disable=SC2086
     "$clang" $flags $checked -c -o "$out/target.o" $here/target.c >"$out/log" 2>&1 &&
-        target "$out/fuzz" "$out/target.o" "$out/libgsym_counted.a" "$out/libgsym_text_counted.a"
+        target "$out/fuzz" "$out/target.o" "$out/libgsym_counted.a" "$out/libgsym_text_counted.a" \
+            "$out/libgsym_check_counted.a"
 }
 if ! over_counters; then
     tail -n 5 "$out/log"

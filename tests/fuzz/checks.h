@@ -59,6 +59,9 @@ static int same_text(gsym_text a, gsym_text b) { return a.place == b.place && a.
 
 /* ---- gsym_lookup */
 
+/* whether the file that is asked passed its check: set by check_whole, and put back to 0 for a file without one */
+static int passed;
+
 /* an answer and its records */
 typedef struct looked {
     gsym_answer a;
@@ -95,6 +98,10 @@ static void check_refusal(bytes file, gsym_answer a, uint32_t options)
     HOLDS((a.number == 3) == (file.len >= 4 && !magic), "3 is given for another magic and nothing else");
     HOLDS((a.number == 4) == (magic && file.len >= 6 && number_at(file.at + 4, 2) != 1),
           "4 is given for another version and nothing else");
+    int code = options & GSYM_CODE_INFO, inlining = options & GSYM_INLINING;
+    HOLDS(!passed || a.number == 1 || (code && (a.number == 7 || a.number == 8)) ||
+              (code && inlining && (a.number == 6 || a.number == 14)),
+          "a file that passed refuses with 1 alone, with code info with 7 and 8 too, with inlining with 6 and 14 too");
 }
 
 static void check_found(bytes file, uint64_t addr, uint32_t options, size_t room, const looked *l)
@@ -186,6 +193,73 @@ static looked look_all_ways(bytes file, uint64_t addr, uint32_t options, size_t 
     check_less(file, addr, &all, at_end);
     *calls += 8;
     return l;
+}
+
+/* ---- gsym_check */
+
+/* whether the list at that place ends in type 0, whose length is not judged */
+static int is_closed(bytes file, uint64_t place)
+{
+    for (;;) {
+        uint64_t left = place <= file.len ? file.len - place : 0;
+        if (left >= 4 && number_at(file.at + place, 4) == 0)
+            return 1;
+        if (left < 8 || number_at(file.at + place + 4, 4) > left - 8)
+            return 0;
+        place += 8 + number_at(file.at + place + 4, 4);
+    }
+}
+
+/* What is told of a file that opens, by its header, its tables, its entries' first eight bytes and the ends of their
+ * lists: each entry below the told one, and each of a file that passes, is well in all that, and 21, 5, 22 and 24 are
+ * told where it is so. */
+static void check_told(bytes file, gsym_finding f)
+{
+    uint64_t width = file.at[6], base = number_at(file.at + 8, 8), entries = number_at(file.at + 16, 4), before = 0;
+    int is_width = width == 1 || width == 2 || width == 4 || width == 8;
+    HOLDS((f.number == 20) == !is_width, "20 is given for another offset size and nothing else");
+    if (!is_width)
+        return;
+    HOLDS(f.number == 0 || f.entry < entries, "the entry that is told is there");
+    const uint8_t *table = file.at + 48, *offsets = file.at + ((48 + entries * width + 3) & ~(uint64_t)3);
+    for (uint64_t i = 0; i < entries && (f.number == 0 || i <= f.entry); i++) {
+        uint64_t entry = number_at(table + i * width, (int)width), place = number_at(offsets + 4 * i, 4);
+        int reads = place <= file.len && file.len - place >= 8;
+        uint64_t size = reads ? number_at(file.at + place, 4) : 0;
+        int fits = entry <= UINT64_MAX - base && size <= UINT64_MAX - base - entry;
+        uint32_t first = i > 0 && entry <= before ? 21 : !reads ? 5 : !fits ? 22 : 0;
+        before = entry;
+        if (f.number == 0 || i < f.entry) {
+            HOLDS(first == 0, "an entry below the told one rises, its information reads and its sum is small");
+            HOLDS(is_closed(file, place + 8), "the list of an entry below the told one ends in type 0");
+        } else {
+            HOLDS(first == 0 ? f.number != 21 && f.number != 5 && f.number != 22 : f.number == first,
+                  "21, 5 and 22 are given where it is so, in this order, and nothing before them");
+            HOLDS(f.number != 24 || !is_closed(file, place + 8), "24 is given for a list that doesn't end in type 0");
+        }
+    }
+}
+
+/* the check of a whole file, judged by itself; from then on `passed` is known */
+static gsym_finding check_whole(bytes file, int at_end, uint64_t *calls)
+{
+    passed = 0;
+    uint32_t opens = look(file, 0, 0, 0, at_end).a.number;
+    asked.call = "gsym_check", asked.symbol = 0, asked.addr = 0, asked.options = 0;
+    asked.len = file.len, asked.room = 0, asked.at_end = at_end;
+    gsym_finding f = gsym_check(file.at, file.len), again = gsym_check(file.at, file.len);
+    uint32_t n = f.number;
+    HOLDS(n == again.number && f.entry == again.entry, "the same check finds the same");
+    HOLDS(n == 0 || (n >= 2 && n <= 6) || (n >= 9 && n <= 13) || (n >= 20 && n <= 24), "a check gives no other number");
+    HOLDS(gsym_finding_name(n) != 0, "what a check finds has a name");
+    HOLDS(f.entry == 0 || (n >= 5 && n != 20), "an entry is told of an entry's fault alone");
+    HOLDS((n >= 2 && n <= 4) == (opens >= 2 && opens <= 4), "2, 3 and 4 are given where a lookup is refused with them");
+    HOLDS(n < 2 || n > 4 || n == opens, "of 2, 3 and 4 the check gives that which a lookup does");
+    if (n < 2 || n > 4)
+        check_told(file, f);
+    passed = n == 0;
+    *calls += 3;
+    return f;
 }
 
 /* ---- gsym_block_frames */

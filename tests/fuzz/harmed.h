@@ -69,9 +69,32 @@ static gsym_listed harmed_frames(const uint8_t *block, size_t len, uint64_t symb
     return a;
 }
 
+static gsym_finding harmed_check(const uint8_t *file, size_t len)
+{
+    static unsigned calls;
+    static volatile uint8_t seen;
+    gsym_finding f = gsym_check(file, len);
+    calls++;
+    switch (harm()) {
+    case 26: seen = file[len]; break;
+    case 27: *(volatile uint8_t *)(uintptr_t)file = 0; break;
+    case 28: if (f.number == 0) f.number = GSYM_OPEN_LIST; break;
+    case 29: f.number = f.entry = 0; break;
+    case 30: if (f.number >= 5) f.entry++; break;
+    case 31: if (f.number != 0) f.number += calls % 2; break;
+    case 32: if (f.number == 0) f.entry = 1; break;
+    case 33: if (f.number == GSYM_TOO_DEEP) f.number = GSYM_TOO_MANY_FRAMES; break;
+    default: break;
+    }
+    (void)seen;
+    return f;
+}
+
 #undef gsym_lookup
 #undef gsym_block_frames
+#undef gsym_check
 #define gsym_lookup harmed_lookup
 #define gsym_block_frames harmed_frames
+#define gsym_check harmed_check
 
 #endif

@@ -55,6 +55,19 @@ static item item_at(bytes f, size_t at)
     return i;
 }
 
+/* how many bytes the entries name, each list counted for each entry that names it; more than `most` is not counted */
+static uint64_t named_bytes(bytes f, uint64_t most)
+{
+    shape s = shape_of(f);
+    uint64_t named = 0;
+    for (size_t i = 0; i < s.entries && named <= most; i++) {
+        item one = item_at(f, data_at(f, s, i) + 8);
+        for (named += 16; one.fits && named <= most; one = item_at(f, one.next))
+            named += 8 + one.next - one.start;
+    }
+    return named;
+}
+
 /* the address that a head asks for */
 static uint64_t address_of(const uint8_t *head, bytes f)
 {

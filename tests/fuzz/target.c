@@ -1,8 +1,8 @@
 /*
  * target.c - the library under libFuzzer. An input is a head of 16 bytes, which chooses what is asked, and then the
- * bytes of a file. Each input is asked by gsym_lookup, and its bytes, or those of an inline item in it, as a block by
- * gsym_block_frames, and a word is answered as text by gsym_answer_text; checks.h judges every answer. mutate.h changes
- * inputs by what is known of the format.
+ * bytes of a file. Each input is checked by gsym_check and asked by gsym_lookup, and its bytes, or those of an inline
+ * item in it, as a block by gsym_block_frames, and a word is answered as text by gsym_answer_text; checks.h judges
+ * every answer. mutate.h changes inputs by what is known of the format.
  *
  * The head:
  *   0       how the address is chosen: raw, near the base, near an entry, inside a symbol, at a symbol's end, border
@@ -45,7 +45,12 @@ static bytes word_of(const uint8_t *head, bytes file, uint64_t addr, uint64_t ba
     return (bytes){file.at + file.len - len, len};
 }
 
-static uint64_t calls, looks[15], lists[15];
+static uint64_t calls, looks[15], lists[15], found[25], unchecked;
+
+/* A check reads a list once for each entry that names it. A file whose entries name more bytes than this, some fifteen
+ * times what the longest input has, is not checked: one of 70,000 bytes can be made to take 0.3 seconds, and more under
+ * counters. */
+enum { MOST_NAMED = 1 << 20 };
 
 /* said at the end: how many calls were judged, and how often the chosen one gave each number */
 static void say_numbers(void)
@@ -56,7 +61,11 @@ static void say_numbers(void)
     fprintf(stderr, "; of blocks 0: %llu", (unsigned long long)lists[0]);
     for (int i = 10; i < 15; i++)
         fprintf(stderr, ", %d: %llu", i, (unsigned long long)lists[i]);
-    fprintf(stderr, "\n");
+    fprintf(stderr, "; of checks 0: %llu", (unsigned long long)found[0]);
+    for (int i = 1; i < 25; i++)
+        if (i < 7 ? i > 1 : i > 8 && (i < 14 || i > 19))
+            fprintf(stderr, ", %d: %llu", i, (unsigned long long)found[i]);
+    fprintf(stderr, ", unchecked: %llu\n", (unsigned long long)unchecked);
 }
 
 int LLVMFuzzerInitialize(int *n, char ***words);
@@ -81,6 +90,11 @@ int LLVMFuzzerTestOneInput(const uint8_t *data, size_t size)
     uint64_t addr = address_of(data, input);
 
     bytes file = lend_file(input.at, input.len, at_end);
+    passed = 0;
+    if (named_bytes(file, MOST_NAMED) <= MOST_NAMED)
+        found[check_whole(file, at_end, &calls).number]++;
+    else
+        unchecked++;
     looked l = look_all_ways(file, addr, data[1] & ALL_OPTIONS, room, at_end, &calls);
 
     bytes part = block_of(data, input);

@@ -192,3 +192,42 @@ pub fn item(file: &[u8], i: usize, nth: usize) -> Option<(u32, usize, usize)> {
     let item = super::parser::parse_address_data(info.data).nth(nth)?;
     Some((item.typ, item.data.as_ptr() as usize - file.as_ptr() as usize, item.data.len()))
 }
+
+// A plain walk of a whole file of so many entries: each entry's information and name, each line table run to its end,
+// and each inline tree read to its end. The rows and frames on the way; None where something doesn't read. It stands
+// here only with `--cfg walk`, since a caller more may change how `run_op` is compiled.
+#[cfg(walk)]
+#[inline(never)]
+pub fn walk(file: &[u8], count: usize) -> Option<u64> {
+    let ctx = super::parser::GsymContext::parse_header(file).ok()?;
+    let mut stack = Vec::new();
+    let mut met = 0;
+    for i in 0..count {
+        let symbol = ctx.addr_at(i)?;
+        let info = ctx.addr_info(i)?;
+        ctx.get_str(info.name as usize)?.to_str()?;
+        for item in super::parser::parse_address_data(info.data) {
+            let mut data = item.data;
+            match item.typ {
+                1 => {
+                    let header = LineTableHeader::parse(&mut data)?;
+                    let mut row = LineTableRow::from_header(&header, symbol);
+                    while !data.is_empty() {
+                        match run_op(&mut row, &header, &mut data)? {
+                            RunResult::Ok => {}
+                            RunResult::NewRow => met += 1,
+                            RunResult::End => break,
+                        }
+                    }
+                }
+                2 => {
+                    stack.clear();
+                    super::inline::InlineInfo::parse_inline_stack(&mut data, symbol, symbol, &mut stack).ok()?;
+                    met += stack.len() as u64;
+                }
+                _ => {}
+            }
+        }
+    }
+    Some(met)
+}

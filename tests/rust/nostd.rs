@@ -1,7 +1,7 @@
-//! A program without std and without a heap that looks an address up.
+//! A program without std and without a heap that looks an address up and checks a file.
 #![no_std]
 #![no_main]
-use gsym::{lookup, Frame, Options, Refusal};
+use gsym::{check, lookup, Fault, Finding, Frame, Options, Refusal};
 
 static FILE: &[u8] = include_bytes!("../../host/sample/connector.gsym");
 
@@ -22,5 +22,7 @@ pub extern "C" fn main() -> i32 {
         Ok(answer) => answer.calls(FILE, &frames).map(|call| call.name).eq(names),
         Err(_) => false,
     };
-    i32::from(!known || lookup(FILE, 1, Options::NAME, &mut []) != Err(Refusal::UnknownAddress))
+    let found = Finding::Entry { index: 4, fault: Fault::Refused(Refusal::UnreadName) };
+    let unknown = lookup(FILE, 1, Options::NAME, &mut []) == Err(Refusal::UnknownAddress);
+    i32::from(!known || !unknown || check(FILE) != Err(found))
 }

@@ -1,6 +1,6 @@
 //! What the binding makes of a library of another version (other.c): no panic, and nothing out of bounds.
-use gsym::{block_frames, check_library, lookup, version, FindSymOpts, Resolver};
-use gsym::{Frame, InlineFrame, Options, Reason, Refusal};
+use gsym::{block_frames, check, check_library, lookup, version, FindSymOpts, Resolver};
+use gsym::{Finding, Frame, InlineFrame, Options, Reason, Refusal};
 
 fn main() {
     let file = b"abc";
@@ -23,6 +23,18 @@ fn main() {
     assert_eq!(resolver.find_sym(0, &FindSymOpts::Basic), Ok(Err(Reason::UnknownAddr)));
     assert_eq!(resolver.find_sym(1, &FindSymOpts::Basic).unwrap_err().number(), 15);
     assert_eq!(resolver.find_sym(3, &FindSymOpts::CodeInfoAndInlined).unwrap().unwrap().inlined.len(), 64);
+    assert_eq!(check(&[]), Ok(()));
+    assert_eq!(check(&[0; 3]), Err(Finding::Tables(Refusal::WrongMagic)));
+    for (len, number) in [(4, u32::MAX), (14, 14), (15, 15), (25, 25), (99, 99)] {
+        let found = check(&[0; 99][..len]).unwrap_err();
+        assert_eq!(found.number(), number);
+        if number > 14 {
+            assert_eq!(found, Finding::Other { number, entry: u32::MAX });
+            assert_eq!(found.to_string(), format!("a finding of a later library, number {}", number));
+        } else {
+            assert!(matches!(found, Finding::Entry { index: u32::MAX, .. }));
+        }
+    }
     // the library is asked once
     assert_eq!((version(), version()), (300, 300));
     assert_eq!(check_library().unwrap_err().found, 300);

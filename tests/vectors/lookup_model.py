@@ -1,6 +1,7 @@
 #!/usr/bin/env python3
-"""Holds the vectors of whole lookups to RULES, written down once more: reads them on standard input, answers
-each case by the rules as that page words them, and says how many differ."""
+"""RULES written down once more: `lookup` is a lookup, `check` the check of a file. As a program it holds the vectors of
+whole lookups to the page: reads them on standard input, answers each case by the rules as the page words them, and says
+how many differ."""
 import sys
 
 
@@ -60,29 +61,41 @@ def quotient(a, b):
     return q if (a < 0) == (b < 0) else -q
 
 
-def row_of(block, symbol, addr):
+def line_table(block):
+    """The header: the least line change, the range and the first line; and the steps of the program."""
     b = Bytes(block, 9)
     low, high, line = b.leb(True), b.leb(True), b.leb() % 2**32
     span = (high - low + 1 + 2**63) % 2**64 - 2**63
+    return low, span, line, steps(b, span)
+
+
+def steps(b, span):
+    """Each opcode with its operand, of a special opcode a, up to opcode 0 or the end of the bytes. A stop is 23."""
+    b.number = 23
+    while b.at < len(b.data):
+        op = b.fixed(1)
+        if op == 0:
+            return
+        need(op < 4 or span, 23)
+        yield op, b.leb(op == 3) if op < 4 else op - 4
+
+
+def row_of(block, symbol, addr):
+    low, span, line, program = line_table(block)
     at, file, made, before = symbol, 1, 0, None
     try:
-        while b.at < len(block):
-            op = b.fixed(1)
-            if op == 0:
-                break
+        for op, operand in program:
             if op == 1:
-                file = b.leb() % 2**32
+                file = operand % 2**32
                 continue
             if op == 3:
-                line = (line + b.leb(True)) % 2**32
+                line = (line + operand) % 2**32
                 continue
             if op == 2:
-                at = (at + b.leb()) % 2**64
+                at = (at + operand) % 2**64
             else:
-                if span == 0:
-                    break
-                q = quotient(op - 4, span)
-                line = (line + low + (op - 4 - q * span)) % 2**32
+                q = quotient(operand, span)
+                line = (line + low + (operand - q * span)) % 2**32
                 at = (at + q) % 2**64
             made += 1
             if addr < at:
@@ -94,6 +107,7 @@ def row_of(block, symbol, addr):
 
 
 def frames_of(block, symbol, addr, room):
+    """The frames at an address. Where that is None every node is open, so that all of them are judged."""
     b = Bytes(block, 10)
     frames = []
 
@@ -109,7 +123,7 @@ def frames_of(block, symbol, addr, room):
             if judged:
                 need(start < 2**64 and start + size < 2**64, 11)
                 first = start if first is None else first
-                opened = opened or start <= addr < start + size
+                opened = opened or addr is None or start <= addr < start + size
         kids, name, file = b.fixed(1), b.fixed(4), b.leb()
         need(not judged or file < 2**32, 12)
         line = min(b.leb(), 2**32 - 1)
@@ -125,59 +139,124 @@ def frames_of(block, symbol, addr, room):
     return frames
 
 
+class Opened:
+    """A file that opens: what its header says, and where its tables stand."""
+
+    def __init__(self, file):
+        need(len(file) >= 4, 2)
+        need(le(file, 0, 4, 2) == 0x4753594D, 3)
+        need(le(file, 4, 2, 2) == 1, 4)
+        self.file, self.width, self.base, self.count = file, le(file, 6, 1, 2), le(file, 8, 8, 2), le(file, 16, 4, 2)
+        self.strings = le(file, 20, 4, 2), le(file, 24, 4, 2)
+        need(len(file) >= 48, 2)
+        self.offsets = (48 + self.count * self.width + 3) // 4 * 4
+        self.files = self.offsets + 4 * self.count + 4
+        self.rows = le(file, self.files - 4, 4, 2)
+        need(self.files + 8 * self.rows <= len(file) and sum(self.strings) <= len(file), 2)
+
+    def entry(self, i):
+        return le(self.file, 48 + self.width * i, self.width, 2)
+
+    def info(self, i):
+        """An entry's size, its name, and where its list starts."""
+        at = le(self.file, self.offsets + 4 * i, 4, 2)
+        return le(self.file, at, 4, 5), le(self.file, at + 4, 4, 5), at + 8
+
+    def text(self, offset, number, utf8=False):
+        return text(self.file, self.strings, offset, number, utf8)
+
+    def items(self, at):
+        """A list's items in order, each its type and its bytes. Type 0 is among them where the list ends in it."""
+        while at + 4 <= len(self.file):
+            kind = le(self.file, at, 4, 2)
+            if kind == 0:
+                yield 0, b""
+                return
+            if at + 8 > len(self.file):
+                return
+            stop = at + 8 + le(self.file, at + 4, 4, 2)
+            if stop > len(self.file):
+                return
+            yield kind, self.file[at + 8 : stop]
+            at = stop
+
+
 def lookup(file, addr, opts, room):
-    need(len(file) >= 4, 2)
-    need(le(file, 0, 4, 2) == 0x4753594D, 3)
-    need(le(file, 4, 2, 2) == 1, 4)
-    width, base, count = le(file, 6, 1, 2), le(file, 8, 8, 2), le(file, 16, 4, 2)
-    strings = le(file, 20, 4, 2), le(file, 24, 4, 2)
-    need(len(file) >= 48, 2)
-    offsets = (48 + count * width + 3) // 4 * 4
-    rows = le(file, offsets + 4 * count, 4, 2)
-    files = offsets + 4 * count + 4
-    need(files + 8 * rows <= len(file) and sum(strings) <= len(file), 2)
-    need(addr >= base and width in (1, 2, 4, 8) and count, 1)
-    entries = [le(file, 48 + width * i, width, 2) for i in range(count)]
-    wanted = addr - base
+    f = Opened(file)
+    need(addr >= f.base and f.width in (1, 2, 4, 8) and f.count, 1)
+    entries = [f.entry(i) for i in range(f.count)]
+    wanted = addr - f.base
     need(entries[0] <= wanted, 1)
-    fits = [i for i in range(count) if entries[i] <= wanted and (i + 1 == count or wanted < entries[i + 1])]
+    fits = [i for i in range(f.count) if entries[i] <= wanted and (i + 1 == f.count or wanted < entries[i + 1])]
     assert len(fits) == 1, "several entries fit"
-    symbol = base + entries[fits[0]]
-    at = le(file, offsets + 4 * fits[0], 4, 2)
-    size, name = le(file, at, 4, 5), le(file, at + 4, 4, 5)
+    symbol = f.base + entries[fits[0]]
+    size, name, at = f.info(fits[0])
     need(size == 0 or addr - symbol < size, 1)
-    name = text(file, strings, name, 6, True)
+    name = f.text(name, 6, True)
     bare = [symbol, size, *name] + [0] * 7, []
     if not opts & 1:
         return bare
-    at, row, frames = at + 8, None, []
-    while at + 8 <= len(file):
-        kind, length = le(file, at, 4, 0), le(file, at + 4, 4, 0)
-        if kind == 0 or at + 8 + length > len(file):
-            break
-        block = file[at + 8 : at + 8 + length]
+    row, frames = None, []
+    for kind, block in f.items(at):
         if kind == 1 and row is None:
             row = row_of(block, symbol, addr)
         if kind == 2 and opts & 2 and not frames:
             frames = frames_of(block, symbol, addr, min(64, room))
-        at += 8 + length
     if row is None:
         return bare
 
     def site(index, line):
-        need(index < rows, 7)
-        directory, leaf = le(file, files + 8 * index, 4, 2), le(file, files + 8 * index + 4, 4, 2)
-        return [*text(file, strings, directory, 8), *text(file, strings, leaf, 8), line]
+        need(index < f.rows, 7)
+        at = f.files + 8 * index
+        return [*f.text(le(file, at, 4, 2), 8), *f.text(le(file, at + 4, 4, 2), 8), line]
 
     sites, names = [site(*row)], []
     for i, (offset, index, line) in enumerate(frames):
-        names.append(text(file, strings, offset, 6, True))
+        names.append(f.text(offset, 6, True))
         if i:
             sites.insert(-1, site(index, line))
     if names:
         name = names[0]
     records = [n + s for n, s in zip(names[1:], sites[1:])]
     return [symbol, size, *name, 1, *sites[0], len(records)], records
+
+
+def check(file):
+    """The number that a check tells, 0 where the file passes, and the entry, 0 where it is none's."""
+    i = 0
+    try:
+        f = Opened(file)
+        need(f.width in (1, 2, 4, 8), 20)
+        for i in range(f.count):
+            check_entry(f, i)
+    except Refused as r:
+        return r.args[0], i
+    return 0, 0
+
+
+def check_entry(f, i):
+    need(i == 0 or f.entry(i - 1) < f.entry(i), 21)
+    symbol = f.base + f.entry(i)
+    size, name, at = f.info(i)
+    need(symbol + size < 2**64, 22)
+    f.text(name, 6, True)
+    kind = None
+    for kind, block in f.items(at):
+        if kind == 1:
+            check_line_table(block)
+        if kind == 2:
+            check_tree(block, symbol)
+    need(kind == 0, 24)
+
+
+def check_line_table(block):
+    *_, program = line_table(block)
+    for _ in program:
+        pass
+
+
+def check_tree(block, symbol):
+    frames_of(block, symbol, None, len(block))  # which has fewer nodes than bytes: there is room for all
 
 
 def answer(*case):

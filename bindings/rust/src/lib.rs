@@ -1,8 +1,9 @@
 //! What a GSYM symbol file says of an address: the function, its source position, and the calls inlined there.
 //!
 //! The work is done by a library that is proved against its promises; this crate is a thin and safe face of it. Every
-//! call ends, on any bytes, with an answer or with a refusal. [`lookup`] and [`block_frames`] take no heap;
-//! [`Resolver`] owns a file's bytes and answers in the shape of blazesym.
+//! call ends, on any bytes, with an answer or with a refusal. [`lookup`] and [`block_frames`] take no heap, nor does
+//! [`check`], which judges a whole file before it is shipped; [`Resolver`] owns a file's bytes and answers in the shape
+//! of blazesym.
 //!
 //! An address counts as the file counts it: of an address of a running program subtract where it was loaded, and of a
 //! return address one, since the call stands before it.
@@ -20,8 +21,8 @@
 //! assert_eq!(lookup(&file, 1, Options::ALL, &mut frames), Err(Refusal::UnknownAddress));
 //! ```
 //!
-//! Features: `std` (on) has `std::error::Error` for refusals and opens files; `alloc` has [`Resolver`] over bytes; with
-//! neither the crate is `no_std` and takes no heap.
+//! Features: `std` (on) has `std::error::Error` for refusals and findings, and opens files; `alloc` has [`Resolver`]
+//! over bytes; with neither the crate is `no_std` and takes no heap.
 #![no_std]
 #![deny(missing_docs)]
 #![deny(unsafe_op_in_unsafe_fn)]
@@ -31,12 +32,14 @@ extern crate alloc;
 #[cfg(feature = "std")]
 extern crate std;
 
+mod finding;
 mod library;
 mod raw;
 mod refusal;
 #[cfg(feature = "alloc")]
 mod resolver;
 
+pub use finding::{Fault, Finding};
 pub use library::{check_library, version, OtherLibrary, VERSION};
 pub use refusal::Refusal;
 #[cfg(feature = "alloc")]
@@ -226,4 +229,33 @@ pub fn block_frames(block: &[u8], symbol: u64, addr: u64, frames: &mut [InlineFr
         Some(refusal) => Err(refusal),
         None => Ok(frames.len().min(r.count as usize)),
     }
+}
+
+/// Checks a whole file, before it is shipped: `Ok` where it passes, else what is found first.
+///
+/// It passes exactly if it opens, its offset size is 1, 2, 4 or 8, its address table strictly rises, no symbol ends
+/// above 2^64-1, and of each entry the information and the name read, the address data list ends in type 0, and each
+/// line table and each inline tree in it reads in full. In a file that passes a lookup with [`Options::NAME`] is
+/// answered at any address, or refused with [`Refusal::UnknownAddress`].
+///
+/// A kernel's file of 20 MiB took 44 milliseconds. But entries may share a name or a list, and it is read for each: in
+/// a file that was made to be slow the time grows with the number of entries times the file's length.
+///
+/// ```
+/// use gsym::{check, Fault, Finding, Refusal};
+///
+/// # let path = concat!(env!("CARGO_MANIFEST_DIR"), "/tests/connector.gsym");
+/// let mut file = std::fs::read(path).unwrap();
+/// // the name of its last symbol doesn't read, on purpose
+/// let found = check(&file).unwrap_err();
+/// assert_eq!(found, Finding::Entry { index: 4, fault: Fault::Refused(Refusal::UnreadName) });
+/// assert_eq!(found.number(), 6);
+///
+/// file[6] = 3;
+/// assert_eq!(check(&file).unwrap_err().to_string(), "an offset size other than 1, 2, 4 and 8");
+/// ```
+pub fn check(file: &[u8]) -> Result<(), Finding> {
+    // SAFETY: the slice is lent with its own length, and the library writes nothing.
+    let r = unsafe { raw::gsym_check(file.as_ptr(), file.len()) };
+    Finding::of(r.number, r.entry).map_or(Ok(()), Err)
 }

@@ -10,7 +10,7 @@ pub const VERSION: u32 = 200;
 ///
 /// Its calls are the right ones all the same: a library whose records lie otherwise in memory has none of these names,
 /// and doesn't link. A newer one may refuse for a reason that this crate has no name for,
-/// [`Refusal::Other`](crate::Refusal::Other).
+/// [`Refusal::Other`](crate::Refusal::Other), or find one in a check, [`Finding::Other`](crate::Finding::Other).
 #[derive(Clone, Copy, Debug, PartialEq, Eq)]
 pub struct OtherLibrary {
     /// The version that was found.

@@ -22,8 +22,14 @@ pub struct RawListed {
     pub number: u32,
 }
 
+#[repr(C)]
+pub struct RawFinding {
+    pub number: u32,
+    pub entry: u32,
+}
+
 const _: () = assert!(size_of::<usize>() == 8);
-const _: () = assert!(size_of::<RawAnswer>() == 80 && size_of::<RawListed>() == 16);
+const _: () = assert!(size_of::<RawAnswer>() == 80 && size_of::<RawListed>() == 16 && size_of::<RawFinding>() == 8);
 const _: () = assert!(size_of::<Frame>() == 56 && size_of::<InlineFrame>() == 12 && size_of::<Text>() == 16);
 
 extern "C" {
@@ -46,6 +52,9 @@ extern "C" {
         frames: *mut InlineFrame,
         frames_len: usize,
     ) -> RawListed;
+
+    #[link_name = "gsym_check_2"]
+    pub fn gsym_check(file: *const u8, file_len: usize) -> RawFinding;
 
     pub fn gsym_version() -> u32;
 }

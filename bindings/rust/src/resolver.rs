@@ -1,5 +1,5 @@
 //! A resolver that owns a file's bytes, in the shape of blazesym's.
-use super::{lookup, Frame, Options, Position, Refusal, MAX_FRAMES};
+use super::{check, lookup, Finding, Frame, Options, Position, Refusal, MAX_FRAMES};
 use alloc::boxed::Box;
 use alloc::vec::Vec;
 
@@ -108,6 +108,11 @@ impl Resolver {
     /// The file's bytes.
     pub fn bytes(&self) -> &[u8] {
         &self.file
+    }
+
+    /// Checks the whole file: [`check`](crate::check).
+    pub fn check(&self) -> Result<(), Finding> {
+        check(&self.file)
     }
 
     /// The symbol of an address. The outer error says that the file is torn or damaged there, the inner one that it has

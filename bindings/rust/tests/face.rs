@@ -1,5 +1,6 @@
 //! The safe face on the sample file, on torn prefixes of it, and on the marked examples of RULES.
-use gsym::{block_frames, check_library, lookup, version, Frame, InlineFrame, Options, Refusal, Text, VERSION};
+use gsym::{block_frames, check, check_library, lookup, version, Fault, Finding};
+use gsym::{Frame, InlineFrame, Options, Refusal, Resolver, Text, VERSION};
 
 fn sample() -> Vec<u8> {
     std::fs::read(concat!(env!("CARGO_MANIFEST_DIR"), "/tests/connector.gsym")).unwrap()
@@ -112,4 +113,101 @@ fn texts_that_fit_and_that_do_not() {
     }
     assert_eq!(Text { place: 0, len: 0 }.str(&[]), Some(""));
     assert_eq!(Text { place: 0, len: 1 }.str(b"\xff"), None);
+}
+
+/// The sample with the name of its last symbol, which doesn't read on purpose, made one that does.
+fn good() -> Vec<u8> {
+    let mut file = sample();
+    put(&mut file, 428, &1u32.to_le_bytes());
+    file
+}
+
+fn put(file: &mut [u8], place: usize, bytes: &[u8]) {
+    file[place..place + bytes.len()].copy_from_slice(bytes);
+}
+
+/// What is found in the good file with some bytes changed.
+fn found(changes: &[(usize, &[u8])]) -> Result<(), Finding> {
+    let mut file = good();
+    for (place, bytes) in changes {
+        put(&mut file, *place, bytes);
+    }
+    let said = check(&file);
+    assert_eq!(Resolver::new(file).map(|r| r.check()), said.map_or_else(as_opened, |()| Ok(Ok(()))));
+    said
+}
+
+/// What a resolver tells of a finding: the tables when it is made, the rest when it checks.
+fn as_opened(found: Finding) -> Result<Result<(), Finding>, Refusal> {
+    match found {
+        Finding::Tables(refusal) => Err(refusal),
+        found => Ok(Err(found)),
+    }
+}
+
+#[test]
+fn a_check_of_the_tables() {
+    assert_eq!(found(&[]), Ok(()));
+    assert_eq!(check(&[]), Err(Finding::Tables(Refusal::TooFewBytes)));
+    assert_eq!(found(&[(0, b"G")]), Err(Finding::Tables(Refusal::WrongMagic)));
+    assert_eq!(found(&[(4, &[2])]), Err(Finding::Tables(Refusal::WrongVersion)));
+    assert_eq!(found(&[(24, &[0xff; 4])]), Err(Finding::Tables(Refusal::TooFewBytes)));
+    assert_eq!(found(&[(6, &[3])]), Err(Finding::OffsetSize));
+    assert_eq!((Finding::OffsetSize.number(), Finding::Tables(Refusal::WrongMagic).number()), (20, 3));
+}
+
+#[test]
+fn a_check_of_the_entries() {
+    let entry = |index, fault| Err(Finding::Entry { index, fault });
+    let refused = |index, refusal| entry(index, Fault::Refused(refusal));
+    // so that the last symbol ends at 2^64-1, and one further
+    let base = u64::MAX - 0x1d0 - 32;
+    let (last, above) = (base.to_le_bytes(), (base + 1).to_le_bytes());
+    assert_eq!(check(&sample()), refused(4, Refusal::UnreadName));
+    assert_eq!(found(&[(50, &[0, 0])]), entry(1, Fault::NotRising));
+    assert_eq!(found(&[(72, &[0xff; 4])]), refused(3, Refusal::UnreadInfo));
+    assert_eq!(found(&[(8, &last)]), Ok(()));
+    assert_eq!(found(&[(8, &above)]), entry(4, Fault::SumTooLarge));
+    // items: a special opcode where min and max leave no range, a list that doesn't end, a header, an inline tree
+    assert_eq!(found(&[(236, &[0, 0x7f, 10, 4])]), entry(0, Fault::StoppedProgram));
+    assert_eq!(found(&[(250, &[9]), (254, &[0xff; 4])]), entry(0, Fault::OpenList));
+    assert_eq!(found(&[(276, &[0xff; 10])]), refused(1, Refusal::UnreadLineHeader));
+    assert_eq!(found(&[(381, &[1])]), refused(2, Refusal::UnreadInline));
+    assert_eq!(found(&[(8, &last), (350, &[0xff, 0x7f])]), refused(2, Refusal::InlineSumTooLarge));
+    assert_eq!(found(&[(368, &[0xff, 0xff, 0xff, 0xff, 0x7f])]), refused(2, Refusal::CallFileTooLarge));
+    for levels in [64, 65] {
+        let mut file = good();
+        let start = file.len() as u32;
+        put(&mut file, 64, &start.to_le_bytes());
+        file.extend([0, 0, 0, 0, 1, 0, 0, 0, 2, 0, 0, 0]);
+        file.extend((levels * 11 - 1u32).to_le_bytes());
+        for level in 1..=levels {
+            file.extend([1, 0, 8, u8::from(level < levels), 1, 0, 0, 0, 1, 1]);
+        }
+        file.extend((1..levels).map(|_| 0));
+        file.extend([0; 8]);
+        assert_eq!(check(&file), if levels == 64 { Ok(()) } else { refused(1, Refusal::TooDeep) });
+    }
+}
+
+#[test]
+fn torn_files_do_not_pass() {
+    let file = good();
+    // the last entry's list ends the file: type 0, whose length is not judged
+    for cut in 0..=file.len() {
+        assert_eq!(check(&file[..cut]).is_ok(), cut + 4 >= file.len());
+    }
+}
+
+#[test]
+fn findings_have_their_words() {
+    let found = Finding::Entry { index: 3, fault: Fault::OpenList };
+    assert_eq!(found.to_string(), "entry 3: the address data list doesn't end in type 0");
+    assert_eq!(found.number(), 24);
+    let found = Finding::Entry { index: 0, fault: Fault::Refused(Refusal::TooDeep) };
+    assert_eq!(found.to_string(), "entry 0: inlined calls on more than 64 levels");
+    assert_eq!(Finding::Tables(Refusal::WrongMagic).to_string(), Refusal::WrongMagic.text());
+    assert_eq!(Finding::OffsetSize.to_string(), "an offset size other than 1, 2, 4 and 8");
+    let later = Finding::Other { number: 77, entry: 1 };
+    assert_eq!((later.number(), later.to_string()), (77, "a finding of a later library, number 77".into()));
 }

@@ -5,7 +5,7 @@
 #![tactic(auto)]
 
 ghost use Rattle.std.specs.Prelude.{◌≡◌, ◌↔◌, ◌+◌, ◌-◌, ◌^◌, ◌≤◌, min, fold, take, length, option_map, slice_get};
-ghost use Rattle.std.specs.Prelude.{IfSome, IsSome, IsErr, IsTrue, OnErr, IsErrOf, false};
+ghost use Rattle.std.specs.Prelude.{[], Ok, IfOk, IfSome, IsNone, IsSome, IsErr, IsTrue, OnErr, IsErrOf, false};
 ghost use Rattle.std.specs.Result.{result_map_both};
 ghost use Rattle.gsym_types.specs.declared.Refusal.{Refusal};
 ghost use Rattle.gsym_types.specs.Refusal.{number_of};
@@ -13,12 +13,16 @@ ghost use Rattle.gsym_strtab.specs.Strings.{part_of};
 ghost use Rattle.gsym_inline.specs.Block.{block_of, room_of};
 ghost use Rattle.gsym_resolver.specs.Lookup.{lookup_of, all_options, plain_options};
 ghost use Rattle.gsym_resolver.specs.Met.{Met};
+ghost use Rattle.gsym_types.specs.declared.Refusal.TheVariants.{UnknownAddress};
+ghost use Rattle.gsym_verify.specs.declared.finding.Finding.{Finding};
+ghost use Rattle.gsym_verify.specs.Faults.{IsFirstFault};
 ghost use Rattle.gsym.specs.CallOrder.{calls_in_order};
 ghost use Rattle.gsym.specs.Names.{IsNameIn};
 ghost use Rattle.gsym_resolver.specs.WithPlaces.{bytes_of};
 ghost use Rattle.gsym_caller.specs.Answers.{highest_of, highest_call_line_of, innermost_name, status_of};
 
 use gsym::{Address, Answer, Frame, Gsym, InlineFrame, LineNumber, Options, Refusal, StrOffset};
+use gsym_verify::Finding;
 
 /// The highest line that execution had reached in the calls inlined at an address, with `gsym::lookup` and a list that
 /// is lent.
@@ -164,4 +168,21 @@ pub fn names_len(gsym: &Gsym<'_>, answer: &Answer, frames: &[Frame]) -> u64
         (calls_in_order answer.now (take answer.now.count frames.now)) }
 {
     gsym.calls(answer, frames).fold(0, |len: u64, call| len.saturating_add(call.name.len as u64))
+}
+
+/// The symbol of an address in a file that passes the check, which is checked first: `None` where no symbol covers the
+/// address. That a lookup refuses with another number can't be.
+pub fn checked_symbol(file: &[u8], addr: Address) -> Result<Option<Answer>, Finding>
+    ensures faulty { (found : Finding) → IsErrOf result found ↔ IsFirstFault file.now found }
+    ensures none { IfOk result (λ answer. IsNone answer
+        → Met file.now addr (plain_options false) 0 UnknownAddress) }
+    ensures some { IfOk result (λ answer. IfSome answer (λ a.
+        lookup_of file.now addr (plain_options false) 0 ≡ Ok (record { answer = a; frames = [] }))) }
+{
+    gsym_verify::check(file)?;
+    match gsym::lookup(file, addr, Options::NAME, &mut []) {
+        Ok(answer) => Ok(Some(answer)),
+        Err(Refusal::UnknownAddress) => Ok(None),
+        Err(_) => unreachable!(),
+    }
 }

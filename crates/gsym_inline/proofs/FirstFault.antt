@@ -270,6 +270,23 @@ module _ (room : ℕ) where
       one-named true = omega arith
       one-named false = omega arith
 
+-- steps come to a refusal exactly if it is that of the first of them that is refused
+pub outcome_fault :
+    (room : ℕ) (steps : List Step) (e : Refusal) → (outcome room [] steps ≡ no e) ↔ FirstFault room steps e
+unfolding Settled NoFaultFrom
+outcome_fault room steps e = (
+  λ p. let S = subst (Settled room [] steps) p (settles room [] steps) in
+      record {
+        before = S.before;
+        step = S.step;
+        after = S.after;
+        split = S.split;
+        fault = S.fault;
+        first = S.first;
+      },
+  λ F. ap (outcome room []) F.split ∙ comes-to room F.step F.after e [] F.before F.fault F.first,
+)
+
 -- ---- a block
 
 module _ (symbol addr room : ℕ) (bytes : List ℕ) where
@@ -282,21 +299,11 @@ module _ (symbol addr room : ℕ) (bytes : List ℕ) where
   pub first-fault :
       (e : Refusal) →
       (block_of symbol addr room bytes ≡ no e) ↔ FirstFault room (steps_of symbol addr bytes) e
-  unfolding Settled NoFaultFrom
-  first-fault e = (
-    λ p. let S = subst (Settled room [] (steps_of symbol addr bytes)) p settled in
-        record {
-          before = S.before;
-          step = S.step;
-          after = S.after;
-          split = S.split;
-          fault = S.fault;
-          first = S.first;
-        },
-    λ F. block-steps symbol addr room bytes
-        ∙ ap (outcome room []) F.split
-        ∙ comes-to room F.step F.after e [] F.before F.fault F.first,
-  )
+  first-fault e =
+      let f = outcome_fault room (steps_of symbol addr bytes) e in (
+        λ p. f.0 (sym (block-steps symbol addr room bytes) ∙ p),
+        λ F. block-steps symbol addr room bytes ∙ f.1 F,
+      )
 
   -- and it lists frames exactly if there is no fault, and they are those of its open nodes
   pub no-fault :

@@ -37,11 +37,11 @@ use Rattle.gsym_inline.proofs.Progress.{FoundGoes, found-next, head-end-next, he
 use Rattle.gsym_inline.proofs.Trees.{whole, below_read}
 
 -- a place further on, within the bytes
-abbrev On : ℕ → ℕ → ℕ → Type 0
+abbrev pub On : ℕ → ℕ → ℕ → Type 0
 On at len n = (at < n) × (n ≤ len)
 
 -- a place that is the one after a head, or one that its children lead to
-children-on :
+pub children-on :
     {E : Type 0} (len : ℕ) (children : ℕ → Result ℕ E) → ((at n : ℕ) → children at ≡ Ok n → On at len n) →
     (byte at next : ℕ) → On at len next → (b : Bool) → (n : ℕ) →
     (if b then Ok next else children next) ≡ Ok n → On at len n

@@ -26,3 +26,9 @@ pub mod StepsWalk
 pub mod StepsOrder
 pub mod FirstFault
 pub mod Told
+pub mod CheckedFuel
+pub mod CheckedLists
+pub mod CheckedSteps
+pub mod CheckedTrees
+pub mod FullBlocks
+pub mod CheckedFaults

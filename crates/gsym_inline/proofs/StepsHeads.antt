@@ -37,6 +37,7 @@ use Rattle.gsym_inline.specs.Steps.{
   item_at,
   with_item,
   item_steps,
+  Judging,
   Mode,
   judged,
   passed,
@@ -293,15 +294,16 @@ module _ (room : ℕ) (acc : List InlineFrame) where
 
     -- ---- a node
 
-    module _ (list : ℕ → Mode → ℕ → (ℕ → List Step) → List Step) (addr level : ℕ) (over rest : ℕ → List Step) where
+    module _ (list : ℕ → Mode → ℕ → (ℕ → List Step) → List Step) (judging : Judging) (level : ℕ)
+        (over rest : ℕ → List Step) where
       -- after a node's ranges, and after its head
       abbrev head_steps : Mode → List Range → (children name file line next : ℕ) → List Step
       head_steps mode rs children name file line next =
-          children_steps list addr level mode rest
+          children_steps list judging level mode rest
           (record { ranges = rs; name = name; file = file; line = line }) children next
 
       pub judged-head :
-          (base at : ℕ) (to : Head JudgedNode → Block) → ((n : ℕ) → outcome room acc (over n) ≡ to (head.End n)) →
+          (addr base at : ℕ) (to : Head JudgedNode → Block) → ((n : ℕ) → outcome room acc (over n) ≡ to (head.End n)) →
           ((rs : List Range) (children name file line next : ℕ) →
           outcome room acc (head_steps (judged base) rs children name file line next)
           ≡ to (head.Node (record {
@@ -311,10 +313,10 @@ module _ (room : ℕ) (acc : List InlineFrame) where
             children = children;
             frame = frame name file line;
           }))) →
-          outcome room acc (node_steps list s addr level (judged base) at over rest)
+          outcome room acc (node_steps list s judging level (judged base) at over rest)
           ≡ on (judged_at (record { level = level; addr = addr; base = base; room = room }) s at) to
       unfolding outcome node_steps item_at judged_at judged_node rest_steps file_steps line_steps
-      judged-head base at to over-is node-is =
+      judged-head addr base at to over-is node-is =
           item-number range_count _ (unsigned_at s at)
           ∙ on-same (told fault.Unread (unsigned_at s at)) _ _ (λ p. by-zero p.0 p.1 (eqb p.0 0))
           ∙ on-bind (told fault.Unread (unsigned_at s at)) _ to
@@ -342,7 +344,7 @@ module _ (room : ℕ) (acc : List InlineFrame) where
           (at : ℕ) (to : Head NodeHead → Block) → ((n : ℕ) → outcome room acc (over n) ≡ to (head.End n)) →
           ((rs : List Range) (name file line : ℕ) (h : NodeHead) →
           outcome room acc (head_steps passed rs h.children name file line h.next) ≡ to (head.Node h)) →
-          outcome room acc (node_steps list s addr level passed at over rest) ≡ on (head_at s level at) to
+          outcome room acc (node_steps list s judging level passed at over rest) ≡ on (head_at s level at) to
       unfolding outcome node_steps item_at head_at node_head past_ranges rest_head rest_steps file_steps line_steps
       passed-head at to over-is node-is =
           item-number range_count _ (unsigned_at s at)

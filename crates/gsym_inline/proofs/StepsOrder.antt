@@ -13,8 +13,8 @@ use Rattle.gsym_inline.specs.Tree.{Range, Node}
 use Rattle.gsym_inline.specs.Steps.{NodeItem, range_count, range_offset, range_size, children_byte, node_name}
 use Rattle.gsym_inline.specs.Steps.{call_file}
 use Rattle.gsym_inline.specs.Steps.{call_line, Step, read, stands, ends, calls, opens, item_at, with_item, item_steps}
-use Rattle.gsym_inline.specs.Steps.{Mode, judged, passed, is_open, children_mode, sums, limit, range_steps}
-use Rattle.gsym_inline.specs.Steps.{children_steps, node_steps, list_steps, steps_of, InFile, Follows, InPlace}
+use Rattle.gsym_inline.specs.Steps.{Judging, Mode, judged, passed, is_open, children_mode, sums, limit, range_steps}
+use Rattle.gsym_inline.specs.Steps.{children_steps, node_steps, list_steps, block_steps, InFile, Follows, InPlace}
 use Rattle.gsym_inline.proofs.Numbers.{never, pick-has, byte-within, word-within}
 use Rattle.gsym_leb128.proofs.Places.{unsigned_next}
 use Rattle.gsym_reads.specs.Steps.{◌>>=◌, given}
@@ -112,26 +112,26 @@ module _ (s : List ℕ) where
       sums-in mode _ m size _
       (ranges_in count mode m _ (λ rs j i. h (record { off = off; size = size } ∷ rs) j (omega arith)))))
 
-  module _ (list : ℕ → Mode → ℕ → (ℕ → List Step) → List Step) (addr level : ℕ) (mode : Mode) (at : ℕ)
+  module _ (list : ℕ → Mode → ℕ → (ℕ → List Step) → List Step) (judging : Judging) (level : ℕ) (mode : Mode) (at : ℕ)
       (over rest : ℕ → List Step)
       (list-in : (level : ℕ) (mode : Mode) (n : ℕ) → at < n → (last : Step) → Ordered s n last (list level mode n rest))
       (over-in : (n : ℕ) → at < n → (last : Step) → Ordered s n last (over n))
       (rest_in : (n : ℕ) → at < n → (last : Step) → Ordered s n last (rest n)) where
     children-in :
         (self : Node) (children line n : ℕ) → at < n →
-        Ordered s n (read call_line line) (children_steps list addr level mode rest self children n)
+        Ordered s n (read call_line line) (children_steps list judging level mode rest self children n)
     unfolding children_steps InFile InPlace Follows
     children-in self children line n l =
-        let more = cond (eqb children 0) (rest n) (list (level + 1) (children_mode addr mode self) n rest) in
+        let more = cond (eqb children 0) (rest n) (list (level + 1) (children_mode judging mode self) n rest) in
         let h : (last : Step) → Ordered s n last more =
         λ last. pick-has (Ordered s n last) (eqb children 0) (rest n)
-        (list (level + 1) (children_mode addr mode self) n rest)
-        (λ _. rest_in n l last) (λ _. list-in (level + 1) (children_mode addr mode self) n l last) in
-        pick-has (Ordered s n (read call_line line)) (is_open addr mode self) (opens self ∷ more) more
+        (list (level + 1) (children_mode judging mode self) n rest)
+        (λ _. rest_in n l last) (λ _. list-in (level + 1) (children_mode judging mode self) n l last) in
+        pick-has (Ordered s n (read call_line line)) (is_open judging mode self) (opens self ∷ more) more
         (λ _. ((h (opens self)).0, ((line, refl), (h (opens self)).1)))
         (λ _. h (read call_line line))
 
-    node_in : (last : Step) → Ordered s at last (node_steps list s addr level mode at over rest)
+    node_in : (last : Step) → Ordered s at last (node_steps list s judging level mode at over rest)
     unfolding node_steps InFile InPlace Follows
     node_in last =
         item_in range_count at last _ (λ count a l.
@@ -150,30 +150,33 @@ module _ (s : List ℕ) where
 -- ---- nodes side by side, and a block
 
 list-in :
-    (s : List ℕ) (f addr level : ℕ) (mode : Mode) (at : ℕ) (over : ℕ → List Step) → length s ≤ at + f →
+    (s : List ℕ) (f : ℕ) (judging : Judging) (level : ℕ) (mode : Mode) (at : ℕ) (over : ℕ → List Step) →
+    length s ≤ at + f →
     ((n : ℕ) → at < n → (last : Step) → Ordered s n last (over n)) →
-    (last : Step) → Ordered s at last (list_steps f s addr level mode at over)
+    (last : Step) → Ordered s at last (list_steps f s judging level mode at over)
 unfolding list_steps InFile InPlace Follows item_at
-list-in s zero addr level mode at over l h last = ((short-past s at (omega arith), refl), (tt, tt))
-list-in s (suc f) addr level mode at over l h last =
-    let rest : (n : ℕ) → at < n → (last : Step) → Ordered s n last (list_steps f s addr level mode n over) =
-    λ n k. list-in s f addr level mode n over (omega arith) (λ m j. h m (omega arith)) in
-    node_in s (list_steps f s addr) addr level mode at over (λ n. list_steps f s addr level mode n over)
-    (λ d mode' n k. list-in s f addr d mode' n (λ n. list_steps f s addr level mode n over) (omega arith)
+list-in s zero judging level mode at over l h last = ((short-past s at (omega arith), refl), (tt, tt))
+list-in s (suc f) judging level mode at over l h last =
+    let rest : (n : ℕ) → at < n → (last : Step) → Ordered s n last (list_steps f s judging level mode n over) =
+    λ n k. list-in s f judging level mode n over (omega arith) (λ m j. h m (omega arith)) in
+    node_in s (list_steps f s judging) judging level mode at over (λ n. list_steps f s judging level mode n over)
+    (λ d mode' n k. list-in s f judging d mode' n (λ n. list_steps f s judging level mode n over) (omega arith)
     (λ m j. rest m (omega arith)))
     h rest last
 
-ordered : (symbol addr : ℕ) (bytes : List ℕ) (last : Step) → Ordered bytes 0 last (steps_of symbol addr bytes)
-unfolding steps_of InFile InPlace
-ordered symbol addr bytes last =
-    node_in bytes (list_steps (suc (length bytes)) bytes addr) addr 1 (judged symbol) 0 (λ n. []) (λ n. [])
-    (λ d mode n k. list-in bytes (suc (length bytes)) addr d mode n (λ n. []) (omega arith) (λ m j last. (tt, tt)))
+ordered : (judging : Judging) (symbol : ℕ) (bytes : List ℕ) (last : Step) →
+    Ordered bytes 0 last (block_steps judging symbol bytes)
+unfolding block_steps InFile InPlace
+ordered judging symbol bytes last =
+    node_in bytes (list_steps (suc (length bytes)) bytes judging) judging 1 (judged symbol) 0 (λ n. []) (λ n. [])
+    (λ d mode n k. list-in bytes (suc (length bytes)) judging d mode n (λ n. []) (omega arith) (λ m j last. (tt, tt)))
     (λ n k last. (tt, tt)) (λ n k last. (tt, tt)) last
 
 -- the items are read in file order, from the block's first byte on
-pub in-file : (symbol addr : ℕ) (bytes : List ℕ) → InFile bytes 0 (steps_of symbol addr bytes)
-in-file symbol addr bytes = (ordered symbol addr bytes (stands 0)).0
+pub in_file : (judging : Judging) (symbol : ℕ) (bytes : List ℕ) → InFile bytes 0 (block_steps judging symbol bytes)
+in_file judging symbol bytes = (ordered judging symbol bytes (stands 0)).0
 
 -- what is judged stands where RULES has it
-pub in_place : (symbol addr : ℕ) (bytes : List ℕ) (last : Step) → InPlace last (steps_of symbol addr bytes)
-in_place symbol addr bytes last = (ordered symbol addr bytes last).1
+pub in_place :
+    (judging : Judging) (symbol : ℕ) (bytes : List ℕ) (last : Step) → InPlace last (block_steps judging symbol bytes)
+in_place judging symbol bytes last = (ordered judging symbol bytes last).1

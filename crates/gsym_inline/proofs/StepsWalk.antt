@@ -13,8 +13,8 @@ use Rattle.gsym_inline.specs.Skip.{past_node, then_skip, skip_within, skip_list}
 use Rattle.gsym_inline.specs.Walk.{with_frame, Places, Walk, open_node, closed_node, walk_from, then_walk, walk_within}
 use Rattle.gsym_inline.specs.Walk.{walk_list, walk_node}
 use Rattle.gsym_inline.specs.Block.{Block, root_context, block_of}
-use Rattle.gsym_inline.specs.Steps.{Step, opens, judged, passed, is_open, children_mode, children_steps, list_steps}
-use Rattle.gsym_inline.specs.Steps.{steps_of}
+use Rattle.gsym_inline.specs.Steps.{Step, opens, at_address, judged, passed, is_open, children_mode, children_steps}
+use Rattle.gsym_inline.specs.Steps.{list_steps, block_steps, steps_of}
 use Rattle.gsym_inline.specs.declared.head.Fault.{Fault}
 use Rattle.gsym_inline.specs.declared.head.Fault.TheVariants.{Room}
 use Rattle.gsym_inline.specs.declared.head.Head.{Head}
@@ -32,13 +32,13 @@ use Rattle.gsym_inline.proofs.StepsHeads.{outcome, on, on-bind, on-same, judged-
 module _ (room : ℕ) (acc : List InlineFrame) (s : List ℕ) (addr : ℕ) where
   pub skip_steps :
       (f level at : ℕ) (rest : ℕ → List Step) →
-      outcome room acc (list_steps f s addr level passed at rest)
+      outcome room acc (list_steps f s (at_address addr) level passed at rest)
       ≡ on (skip_within f s level at) (λ n. outcome room acc (rest n))
   unfolding outcome list_steps skip_within past_node then_skip children_steps is_open children_mode
   skip_steps zero level at rest = refl
   skip_steps (suc f) level at rest =
-      passed-head room acc s (list_steps f s addr) addr level rest
-      (λ n. list_steps f s addr level passed n rest) at to (λ n. refl)
+      passed-head room acc s (list_steps f s (at_address addr)) (at_address addr) level rest
+      (λ n. list_steps f s (at_address addr) level passed n rest) at to (λ n. refl)
       (λ rs name file line h. by-children (eqb h.children 0) h.next (skip_steps f))
       ∙ on-bind (head_at s level at) _ (λ n. outcome room acc (rest n))
     where
@@ -50,15 +50,15 @@ module _ (room : ℕ) (acc : List InlineFrame) (s : List ℕ) (addr : ℕ) where
       by-children :
           (z : Bool) (next : ℕ) →
           ((level at : ℕ) (rest : ℕ → List Step) →
-          outcome room acc (list_steps f s addr level passed at rest)
+          outcome room acc (list_steps f s (at_address addr) level passed at rest)
           ≡ on (skip_within f s level at) (λ n. outcome room acc (rest n))) →
-          outcome room acc (cond z (list_steps f s addr level passed next rest)
-          (list_steps f s addr (level + 1) passed next (λ n. list_steps f s addr level passed n rest)))
+          outcome room acc (cond z (list_steps f s (at_address addr) level passed next rest)
+          (list_steps f s (at_address addr) (level + 1) passed next (λ n. list_steps f s (at_address addr) level passed n rest)))
           ≡ on ((cond z (Ok next) (skip_within f s (level + 1) next) >>= λ n. Ok (after.Past n))
           >>= then_skip (skip_within f s level)) (λ n. outcome room acc (rest n))
       by-children true next ih = ih level next rest
       by-children false next ih =
-          ih (level + 1) next (λ n. list_steps f s addr level passed n rest)
+          ih (level + 1) next (λ n. list_steps f s (at_address addr) level passed n rest)
           ∙ on-same (skip_within f s (level + 1) next) _ _ (λ n. ih level n rest)
           ∙ on-bind (skip_within f s (level + 1) next) (skip_within f s level) (λ n. outcome room acc (rest n))
           ∙ ap (λ (x : Result ℕ Fault). on x (λ n. outcome room acc (rest n)))
@@ -79,7 +79,7 @@ over_children x = do
 -- with `onward` after the node, which reads on as the steps of `rest` do
 module _ (room f : ℕ) (s : List ℕ) (addr : ℕ)
     (ih : (level base at : ℕ) (acc : List InlineFrame) (rest : ℕ → List Step) →
-    outcome room acc (list_steps f s addr level (judged base) at rest)
+    outcome room acc (list_steps f s (at_address addr) level (judged base) at rest)
     ≡ on (walk_within f s (context level addr base room) at acc) (λ p. outcome room p.1 (rest p.0)))
     (level base : ℕ) (over rest : ℕ → List Step) (onward : ℕ → List InlineFrame → Places)
     (K : ℕ × List InlineFrame → Block)
@@ -94,7 +94,7 @@ module _ (room f : ℕ) (s : List ℕ) (addr : ℕ)
   -- the children of an open node, and of one that is not
   open-children :
       (b next : ℕ) (fs : List InlineFrame) (z : Bool) →
-      outcome room fs (cond z (rest next) (list_steps f s addr (level + 1) (judged b) next rest))
+      outcome room fs (cond z (rest next) (list_steps f s (at_address addr) (level + 1) (judged b) next rest))
       ≡ on (over_children (cond z (Ok (next, fs)) (walk_within f s (context (level + 1) addr b room) next fs))
       >>= then_walk onward) K
   unfolding then_walk
@@ -108,7 +108,7 @@ module _ (room f : ℕ) (s : List ℕ) (addr : ℕ)
 
   shut-children :
       (next : ℕ) (acc : List InlineFrame) (z : Bool) →
-      outcome room acc (cond z (rest next) (list_steps f s addr (level + 1) passed next rest))
+      outcome room acc (cond z (rest next) (list_steps f s (at_address addr) (level + 1) passed next rest))
       ≡ on ((cond z (Ok next) (skip_within f s (level + 1) next) >>= λ n. Ok (after.Past n, acc))
       >>= then_walk onward) K
   unfolding then_walk
@@ -123,7 +123,7 @@ module _ (room f : ℕ) (s : List ℕ) (addr : ℕ)
   -- a node without a fault of its own, by whether it contains the address
   node-is :
       (acc : List InlineFrame) (rs : List Range) (children name file line next : ℕ) →
-      outcome room acc (children_steps (list_steps f s addr) addr level (judged base) rest
+      outcome room acc (children_steps (list_steps f s (at_address addr)) (at_address addr) level (judged base) rest
       (record { ranges = rs; name = name; file = file; line = line }) children next)
       ≡ to acc (head.Node (record {
         next = next;
@@ -141,7 +141,7 @@ module _ (room f : ℕ) (s : List ℕ) (addr : ℕ)
       more : Bool → List Step
       more t =
           cond (eqb children 0) (rest next)
-          (list_steps f s addr (level + 1) (cond t (judged (base + first_off rs)) passed) next rest)
+          (list_steps f s (at_address addr) (level + 1) (cond t (judged (base + first_off rs)) passed) next rest)
 
       by-room :
           (r : Bool) →
@@ -166,16 +166,16 @@ module _ (room f : ℕ) (s : List ℕ) (addr : ℕ)
 
 pub walk_steps :
     (room f : ℕ) (s : List ℕ) (addr level base at : ℕ) (acc : List InlineFrame) (rest : ℕ → List Step) →
-    outcome room acc (list_steps f s addr level (judged base) at rest)
+    outcome room acc (list_steps f s (at_address addr) level (judged base) at rest)
     ≡ on (walk_within f s (context level addr base room) at acc) (λ p. outcome room p.1 (rest p.0))
 unfolding outcome list_steps walk_within to walk_from then_walk
 walk_steps room zero s addr level base at acc rest = refl
 walk_steps room (suc f) s addr level base at acc rest =
     let c = context level addr base room in
     let onward : ℕ → List InlineFrame → Places = walk_within f s c in
-    let go : ℕ → List Step = λ n. list_steps f s addr level (judged base) n rest in
+    let go : ℕ → List Step = λ n. list_steps f s (at_address addr) level (judged base) n rest in
     let K : ℕ × List InlineFrame → Block = λ p. outcome room p.1 (rest p.0) in
-    judged-head room acc s (list_steps f s addr) addr level rest go base at
+    judged-head room acc s (list_steps f s (at_address addr)) (at_address addr) level rest go addr base at
     (to room f s addr (walk_steps room f s addr) level base rest go onward K (λ n acc. refl)
     (λ n acc. walk_steps room f s addr level base n acc rest) acc)
     (λ n. refl)
@@ -189,7 +189,7 @@ walk_steps room (suc f) s addr level base at acc rest =
 pub block-steps :
     (symbol addr room : ℕ) (bytes : List ℕ) →
     block_of symbol addr room bytes ≡ outcome room [] (steps_of symbol addr bytes)
-unfolding block_of steps_of walk_node walk_list skip_list outcome to walk_from then_walk
+unfolding block_of block_steps walk_node walk_list skip_list outcome to walk_from then_walk
 block-steps symbol addr room bytes =
     let f = suc (length bytes) in
     let c = root_context symbol addr room in
@@ -197,7 +197,7 @@ block-steps symbol addr room bytes =
     let K : ℕ × List InlineFrame → Block = λ p. Ok p.1 in
     let none : ℕ → List Step = λ n. [] in
     sym (
-    judged-head room [] bytes (list_steps f bytes addr) addr 1 none none symbol 0
+    judged-head room [] bytes (list_steps f bytes (at_address addr)) (at_address addr) 1 none none addr symbol 0
     (to room f bytes addr (walk_steps room f bytes addr) 1 symbol none none onward K (λ n acc. refl)
     (λ n acc. refl) [])
     (λ n. refl)

@@ -15,3 +15,5 @@ pub mod Steps
 pub mod FirstFault
 pub mod Examples
 pub mod FaultExamples
+pub mod Checked
+pub mod TreeInFull

@@ -132,6 +132,10 @@ JudgedFit addr base forest =
     (p : NodePath) (x : Placed) → node_at base forest p ≡ Some x → Judged addr base forest p →
     NodeFits x.base x.node
 
+-- every node does so, judged at an address or not
+abbrev pub AllFit : ℕ → Forest → Type 0
+AllFit base forest = (p : NodePath) (x : Placed) → node_at base forest p ≡ Some x → NodeFits x.base x.node
+
 -- no node stands on a level (any base will do)
 abbrev pub NoneOn : ℕ → ℕ → Forest → Type 0
 NoneOn l base forest = (p : NodePath) (x : Placed) → node_at base forest p ≡ Some x → level p ≡ l → ⊥

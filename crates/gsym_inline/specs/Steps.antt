@@ -81,20 +81,29 @@ item_steps i s at go = with_item i go (item_at i s at)
 
 -- ---- which nodes are judged
 
+-- what nodes are judged for: their frames at an address, or a check of them all
+pub data Judging : Type 0 where
+  at_address : ℕ → Judging
+  everywhere : Judging
+
 -- nodes side by side are judged, their offsets counted from a base, or passed over
 pub data Mode : Type 0 where
   judged : (base : ℕ) → Mode
   passed : Mode
 
--- a node is open if it is judged and contains the address
-unfoldable pub is_open : ℕ → Mode → Node → Bool
-is_open addr (judged base) self = any_in addr base self.ranges
-is_open addr passed self = false
+-- a node is open if it is judged and contains the address; a check asks for none
+unfoldable pub is_open : Judging → Mode → Node → Bool
+is_open (at_address addr) (judged base) self = any_in addr base self.ranges
+is_open (at_address addr) passed self = false
+is_open everywhere mode self = false
 
--- the children of open nodes are judged, and no others
-unfoldable pub children_mode : ℕ → Mode → Node → Mode
-children_mode addr (judged base) self = if any_in addr base self.ranges then judged (child_base base self) else passed
-children_mode addr passed self = passed
+-- the children of open nodes are judged, and no others; in a check those of every node, and none is passed over
+unfoldable pub children_mode : Judging → Mode → Node → Mode
+children_mode (at_address addr) (judged base) self =
+    if any_in addr base self.ranges then judged (child_base base self) else passed
+children_mode (at_address addr) passed self = passed
+children_mode everywhere (judged base) self = judged (child_base base self)
+children_mode everywhere passed self = passed
 
 -- start and end of a range, and the call file: of judged nodes only
 unfoldable pub sums : Mode → Range → List Step → List Step
@@ -118,19 +127,19 @@ range_steps (suc count) s mode at go =
 
 -- after a node's items: that it is open; its children, with `list` for a list of them; and what comes after it
 unfoldable pub children_steps :
-    (ℕ → Mode → ℕ → (ℕ → List Step) → List Step) → (addr level : ℕ) → Mode → (ℕ → List Step) →
+    (ℕ → Mode → ℕ → (ℕ → List Step) → List Step) → Judging → (level : ℕ) → Mode → (ℕ → List Step) →
     Node → (children next : ℕ) → List Step
-children_steps list addr level mode rest self children next =
-    let more = if children == 0 then rest next else list (level + 1) (children_mode addr mode self) next rest in
-    if is_open addr mode self then opens self ∷ more else more
+children_steps list judging level mode rest self children next =
+    let more = if children == 0 then rest next else list (level + 1) (children_mode judging mode self) next rest in
+    if is_open judging mode self then opens self ∷ more else more
 
 -- The order inside a node (RULES, "Inline tree"): the range count; the level; for each range its offset, size, start
 -- and end; the children byte, the name, the call file and its limit, the call line; that it is open. A range count of 0
 -- is the end of the list, and `over` what comes after the list.
 unfoldable pub node_steps :
-    (ℕ → Mode → ℕ → (ℕ → List Step) → List Step) → List ℕ → (addr level : ℕ) → Mode → (at : ℕ) →
+    (ℕ → Mode → ℕ → (ℕ → List Step) → List Step) → List ℕ → Judging → (level : ℕ) → Mode → (at : ℕ) →
     (over rest : ℕ → List Step) → List Step
-node_steps list s addr level mode at over rest =
+node_steps list s judging level mode at over rest =
     item_steps range_count s at (λ count n.
     if count == 0 then over n else (
     stands level ∷ (
@@ -140,20 +149,28 @@ node_steps list s addr level mode at over rest =
     item_steps call_file s n (λ file n.
     limit mode file (
     item_steps call_line s n (λ line n.
-    children_steps list addr level mode rest
+    children_steps list judging level mode rest
     (record { ranges = rs; name = name; file = file; line = min most_line line }) children n)))))))))
 
 -- nodes side by side, each with all below it before the next, in so many turns
-unfoldable pub list_steps : ℕ → List ℕ → (addr level : ℕ) → Mode → (at : ℕ) → (over : ℕ → List Step) → List Step
-list_steps zero s addr level mode at over = unread range_count Short ∷ []
-list_steps (suc turns) s addr level mode at over =
-    node_steps (list_steps turns s addr) s addr level mode at over
-    (λ n. list_steps turns s addr level mode n over)
+unfoldable pub list_steps : ℕ → List ℕ → Judging → (level : ℕ) → Mode → (at : ℕ) → (over : ℕ → List Step) → List Step
+list_steps zero s judging level mode at over = unread range_count Short ∷ []
+list_steps (suc turns) s judging level mode at over =
+    node_steps (list_steps turns s judging) s judging level mode at over
+    (λ n. list_steps turns s judging level mode n over)
 
 -- a block: its root is judged, stands on level 1 and counts from the symbol's address; what follows it is ignored
-unfoldable pub steps_of : (symbol addr : ℕ) → List ℕ → List Step
-steps_of symbol addr bytes =
-    node_steps (list_steps (suc (length bytes)) bytes addr) bytes addr 1 (judged symbol) 0 (λ n. []) (λ n. [])
+unfoldable pub block_steps : Judging → (symbol : ℕ) → List ℕ → List Step
+block_steps judging symbol bytes =
+    node_steps (list_steps (suc (length bytes)) bytes judging) bytes judging 1 (judged symbol) 0 (λ n. []) (λ n. [])
+
+-- for its frames at an address
+abbrev pub steps_of : (symbol addr : ℕ) → List ℕ → List Step
+steps_of symbol addr bytes = block_steps (at_address addr) symbol bytes
+
+-- for a check of all its nodes
+abbrev pub check_steps : (symbol : ℕ) → List ℕ → List Step
+check_steps symbol bytes = block_steps everywhere symbol bytes
 
 -- ---- the order, said of a list of steps
 

@@ -6,7 +6,7 @@ ghost use Rattle.gsym_types.specs.declared.Refusal.{Refusal};
 ghost use Rattle.gsym_inline.specs.Block.{block_of};
 ghost use Rattle.gsym_inline.specs.Reads.{Reads};
 ghost use Rattle.gsym_inline.specs.ListsFrames.{ListsFrames};
-ghost use Rattle.gsym_inline.specs.Steps.{Step, steps_of, InFile, InPlace};
+ghost use Rattle.gsym_inline.specs.Steps.{Step, Judging, block_steps, steps_of, InFile, InPlace};
 ghost use Rattle.gsym_inline.specs.FirstFault.{NoFault, FirstFault};
 ghost use Rattle.gsym_inline.specs.FaultExamples.{FaultNumbers};
 ghost use Rattle.gsym_inline.specs.Examples.{TreeExamples};
@@ -15,9 +15,10 @@ ghost use Rattle.gsym_inline.specs.Examples.{TreeExamples};
 /// bytes one after another from the start on, what is judged comes directly after its item, and the block reads exactly
 /// if no step is refused.
 pub fn steps_in_order()
-    ensures in_file { (symbol addr : ℕ) (bytes : List ℕ) → InFile bytes 0 (steps_of symbol addr bytes) }
-    ensures in_place { (symbol addr : ℕ) (bytes : List ℕ) (last : Step)
-        → InPlace last (steps_of symbol addr bytes) }
+    ensures in_file { (judging : Judging) (symbol : ℕ) (bytes : List ℕ)
+        → InFile bytes 0 (block_steps judging symbol bytes) }
+    ensures in_place { (judging : Judging) (symbol : ℕ) (bytes : List ℕ) (last : Step)
+        → InPlace last (block_steps judging symbol bytes) }
     ensures reads { (symbol addr room : ℕ) (bytes : List ℕ)
         → Reads symbol addr room bytes ↔ NoFault room (steps_of symbol addr bytes) }
 {}

@@ -5,9 +5,11 @@
 //!     judge     a head judged at an address
 //!     skipping  nodes passed over
 //!     walk      the judging walk and its frames
+//!     checking  the walk that judges every node
 //!     laws      theorems on the definitions, as contracts of functions that do nothing
 #![tactic(auto)]
 
+mod checking;
 mod context;
 mod head;
 mod judge;
@@ -15,14 +17,17 @@ mod laws;
 mod skipping;
 mod walk;
 
-ghost use Rattle.std.specs.Prelude.{◌≡◌, ◌↔◌, [], IsOk, IsErrOf, OnErr};
+ghost use Rattle.std.specs.Prelude.{◌≡◌, ◌↔◌, [], IsOk, IsErrOf, IfErr, OnErr};
 ghost use Rattle.gsym_types.specs.declared.Refusal.{Refusal};
 ghost use Rattle.gsym_inline.specs.ListsFrames.{ListsFrames};
-ghost use Rattle.gsym_inline.specs.Steps.{steps_of};
+ghost use Rattle.gsym_inline.specs.Steps.{steps_of, check_steps};
+ghost use Rattle.gsym_inline.specs.Checked.{checked_tree, IsOfTreeCheck};
+ghost use Rattle.gsym_inline.specs.TreeInFull.{TreeInFull};
 ghost use Rattle.gsym_inline.specs.FirstFault.{FirstFault};
 ghost use Rattle.gsym_inline.specs.Block.{listing, refusal_of, block_of, room_of};
 
 use arrayvec::ArrayVec;
+use checking::check_node;
 use context::Context;
 pub use gsym_leb128::Cause;
 use gsym_types::{Address, InlineFrame, MAX_FRAMES, Refusal};
@@ -79,5 +84,33 @@ pub fn block_in(
         frames.clear();
         return Err(Refusal::from(fault));
     }
+    Ok(())
+}
+
+/// Whether the tree of a block is there in full, for the symbol that the block belongs to, with each of its nodes
+/// judged (RULES, "Checking a file"): its bytes read, no node has a start or an end above 2^64-1 or a call file above
+/// 4,294,967,295, and none stands on level 65. Refused for what comes first in reading order, with one of the refusals
+/// 10 to 13.
+pub fn check_tree(block: &[u8], symbol: Address) -> Result<(), Refusal>
+    ensures full { IsOk result ↔ TreeInFull symbol.0 block.now }
+    ensures refused { (r : Refusal) → IsErrOf result r ↔ FirstFault 0 (check_steps symbol.0 block.now) r }
+    ensures number { IfErr result IsOfTreeCheck }
+    ensures exact { result ≡ checked_tree symbol.0 block.now }
+{
+    check_root(block, symbol)
+}
+
+// `check_tree`, held to the definition alone.
+#[tactic(auto, unfolding(crate::specs::Checked::checked_tree))]
+fn check_root(block: &[u8], symbol: Address) -> Result<(), Refusal>
+    ensures { result ≡ checked_tree symbol.0 block.now }
+{
+    let context = Context {
+        level: 1,
+        addr: 0,
+        base: symbol.0,
+        room: 0,
+    };
+    check_node(block, context, 0)?;
     Ok(())
 }

@@ -6,3 +6,4 @@ pub mod Progress
 pub mod Runs
 pub mod Choice
 pub mod Reach
+pub mod Endings

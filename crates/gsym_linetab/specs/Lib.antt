@@ -5,3 +5,4 @@ pub mod RowFor
 pub mod Quick
 pub mod Reaches
 pub mod Examples
+pub mod Endings

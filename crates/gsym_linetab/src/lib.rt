@@ -12,6 +12,7 @@ ghost use Rattle.gsym_linetab.specs.Machine.{header_of, start_row, step_of};
 ghost use Rattle.gsym_linetab.specs.Unread.{IsUnread, IsStop};
 ghost use Rattle.gsym_linetab.specs.Rows.{Run, run_of, row_for, row_from, table_of, line_row};
 ghost use Rattle.gsym_linetab.specs.RowFor.{IsRowFor};
+ghost use Rattle.gsym_linetab.specs.Endings.{ending_of, LineInFull, LineStops, EndsInFull};
 
 use gsym_leb128::Cause;
 use gsym_types::{Address, FileIndex, LineNumber};
@@ -131,6 +132,9 @@ pub fn from_header(header: LineTableHeader, symbol: Address) -> LineTableRow
 
 /// Runs the opcode at the state's place, or says why the program ends there (RULES, "Line table"). A place past the end
 /// is `UsedUp`.
+// In a program that both looks up and checks it has two callers, and would stay a call, which hands its state through
+// memory (docs/DECISIONS.md, D47).
+#[inline(always)]
 #[tactic(auto, using(std::proofs::lemmas::Option::gets, std::proofs::lemmas::Bool::Decides::nat_tests), unfolding(crate::specs::Machine::step_of))]
 pub fn run_op(header: LineTableHeader, ops: &[u8], state: LineState) -> Result<RunResult, Ending>
     ensures exact { result ≡ step_of header ops.now state }
@@ -227,4 +231,41 @@ pub fn line_row(block: &[u8], symbol: Address, addr: Address) -> Result<Option<L
     let (header, next) = parse(block, 0)?;
     let row = from_header(header, symbol);
     Ok(row_for(header, block, LineState { row, at: next }, addr))
+}
+
+/// How the program of a whole table of the symbol at `symbol` ends, where it is run to its end (RULES, "Line table"): a
+/// table reads in full where that is at opcode 0 or with its bytes. The cause where the header doesn't read.
+pub fn table_end(block: &[u8], symbol: Address) -> Result<Ending, Cause>
+    ensures full { EndsInFull result ↔ LineInFull symbol block.now }
+    ensures stopped { (result ≡ Ok Stopped) ↔ LineStops symbol block.now }
+    ensures refused { (cause : Cause) → IsErrOf result cause ↔ IsUnread block.now 0 cause }
+    ensures exact { result ≡ ending_of block.now symbol }
+{
+    run_to_end(block, symbol)
+}
+
+// `table_end`, held to the definition alone.
+#[tactic(auto, unfolding(crate::specs::Endings::ending_of, crate::specs::Rows::table_of))]
+fn run_to_end(block: &[u8], symbol: Address) -> Result<Ending, Cause>
+    ensures { result ≡ ending_of block.now symbol }
+{
+    let (header, next) = parse(block, 0)?;
+    let row = from_header(header, symbol);
+    Ok(program_end(header, block, LineState { row, at: next }))
+}
+
+// How a program ends, from a state on.
+#[tactic(auto, using(crate::proofs::Endings::endings))]
+fn program_end(header: LineTableHeader, ops: &[u8], start: LineState) -> Ending
+    ensures { result ≡ (run_of header ops.now start).ended }
+{
+    let mut state = start;
+    // A turn takes an opcode with its operand, of one to eleven bytes: it is no element of a slice.
+    'opcodes: loop {
+        match run_op(header, ops, state) {
+            Ok(RunResult::Ok(after)) => state = after,
+            Ok(RunResult::NewRow(after)) => state = after,
+            Err(ending) => return ending,
+        }
+    }
 }

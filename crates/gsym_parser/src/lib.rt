@@ -18,7 +18,7 @@ use gsym_strtab::StrTable;
 use gsym_types::Address;
 pub use items::{Item, Items, parse_address_data};
 pub use laws::small_file;
-pub use search::Found;
+pub use search::{Found, is_width};
 
 /// The first four bytes of a file, as a number (RULES, "Header and tables").
 pub const MAGIC: u32 = 0x4753594d;

@@ -91,8 +91,8 @@ fn table_len(size: u8, count: u32) -> usize
     if is_width(size) { count as usize } else { 0 }
 }
 
-// Whether an offset size is 1, 2, 4 or 8.
-fn is_width(size: u8) -> bool
+/// Whether an offset size is 1, 2, 4 or 8 (RULES, "Finding the entry").
+pub fn is_width(size: u8) -> bool
     ensures { result ≡ is_width size }
 {
     matches!(size, 1 | 2 | 4 | 8)

@@ -12,6 +12,6 @@ mod words;
 
 pub use frames::refusal_name;
 pub use laws::{plain_texts, printed_examples};
-pub use printing::{Outcome, Printed, answer, answers, refusal_text, shown_text};
+pub use printing::{Outcome, Printed, answer, answers, json_text, refusal_text, shown_text};
 pub use view::{Form, View};
 pub use words::{address_of, next_word};

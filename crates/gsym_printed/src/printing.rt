@@ -192,6 +192,14 @@ pub fn shown_text(bytes: &[u8], room: &mut [u8]) -> usize
     put_shown(room, 0, Form::Lines, bytes)
 }
 
+/// Any bytes as they stand in a string of JSON, and how many bytes that are; written as `answer` writes (RULES, "What
+/// the tools print").
+pub fn json_text(bytes: &[u8], room: &mut [u8]) -> usize
+    ensures { IsWritten room.old room.new result (shown_text Form.Json bytes.now) }
+{
+    put_shown(room, 0, Form::Json, bytes)
+}
+
 /// The name of a refusal, and how many bytes it has; written as `answer` writes (RULES, "Refusal numbers").
 pub fn refusal_text(refusal: Refusal, room: &mut [u8]) -> usize
     ensures { IsWritten room.old room.new result (name_of refusal) }

@@ -1,6 +1,7 @@
 //! Files, read whole up to a limit.
-ghost use Rattle.std.specs.Prelude.{◌≡◌, ◌↔◌, Some, IsOk, IfOk, IfErr, OnOk};
+ghost use Rattle.std.specs.Prelude.{◌≡◌, ◌↔◌, ◌⊎◌, Some, IsOk, IsTrue, IfOk, IfErr, OnOk};
 ghost use Rattle.gsym_types.specs.declared.Refusal.{Refusal};
+ghost use Rattle.gsym_types.specs.declared.Refusal.TheVariants.{WrongMagic, WrongVersion};
 ghost use Rattle.gsym_parser.specs.Header.{opened_of};
 ghost use Rattle.gsym_tool.specs.Files.{Refuses, HasStart};
 ghost use Rattle.gsym_tool.specs.Troubles.{IsOfFile};
@@ -133,6 +134,17 @@ fn opened(rt: &HostRuntime, name: &[u8]) -> Result<File, Trouble>
     }
 }
 
+// All that a file has behind the bytes that were read of it.
+fn read_rest(alloc: Global, name: &[u8], file: &File, bytes: &mut Vec<u8>) -> Result<(), Trouble>
+    ensures { IfErr result (IsOfFile name.now) }
+{
+    read_named(alloc, name, file, MOST as u64, bytes)?;
+    if bytes.len() > MOST {
+        return Err(Trouble::File(copy(alloc, name)?, "more than 1 GiB"));
+    }
+    Ok(())
+}
+
 /// The bytes of a symbol file whose header and tables read. An endless one ends at once.
 pub fn symbols(rt: &HostRuntime, name: &[u8]) -> Result<Vec<u8>, Trouble>
     ensures opens { IfOk result (λ bytes. IsOk (opened_of bytes.items)) }
@@ -143,10 +155,32 @@ pub fn symbols(rt: &HostRuntime, name: &[u8]) -> Result<Vec<u8>, Trouble>
     let mut bytes = Vec::new(alloc);
     read_named(alloc, name, &file, START, &mut bytes)?;
     judge_start(alloc, name, &bytes)?;
-    read_named(alloc, name, &file, MOST as u64, &mut bytes)?;
-    if bytes.len() > MOST {
-        return Err(Trouble::File(copy(alloc, name)?, "more than 1 GiB"));
-    }
+    read_rest(alloc, name, &file, &mut bytes)?;
     judge(alloc, name, &bytes)?;
+    Ok(bytes)
+}
+
+// Whether magic or version is wrong, which nothing behind them mends.
+fn has_wrong_start(file: &[u8]) -> bool
+    ensures { IsTrue result ↔ (Refuses file.now WrongMagic ⊎ Refuses file.now WrongVersion) }
+{
+    matches!(
+        refusal_of(file),
+        Some(Refusal::WrongMagic | Refusal::WrongVersion)
+    )
+}
+
+/// The bytes of a file that is to be checked: all, or the first six where these are wrong, so that an endless one ends
+/// at once.
+pub fn bytes_to_check(rt: &HostRuntime, name: &[u8]) -> Result<Vec<u8>, Trouble>
+    ensures { IfErr result (IsOfFile name.now) }
+{
+    let alloc = rt.alloc();
+    let file = opened(rt, name)?;
+    let mut bytes = Vec::new(alloc);
+    read_named(alloc, name, &file, START, &mut bytes)?;
+    if !has_wrong_start(&bytes) {
+        read_rest(alloc, name, &file, &mut bytes)?;
+    }
     Ok(bytes)
 }

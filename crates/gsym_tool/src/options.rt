@@ -7,6 +7,29 @@ use super::trouble::Trouble;
 use gsym_printed::{Form, View};
 use std::alloc::Global;
 
+/// What the words of the command line may be.
+pub const USAGE: &str =
+    "usage: gsym addr2line -e FILE [-a] [-f] [-i] [-p] [-s] [-C] [--base ADDRESS] [--return-addresses]
+                      [--refusals] [--json] [@FILE] [ADDRESS...]
+       gsym check [--json] FILE...
+       gsym info [--json] FILE
+  -e, --exe FILE          the GSYM symbol file
+  -a, --addresses         print each address first
+  -f, --functions         print function names
+  -i, --inlines           print inlined calls too, from the innermost outwards
+  -p, --pretty-print      one line a frame
+  -s, --basenames         print files without their directories
+  -C, --demangle[=STYLE]  accepted, and names are printed as they stand in the file
+      --base ADDRESS      where the program was loaded: subtracted from each address first
+      --return-addresses  look up the address before each one, where the call stands
+      --refusals          print a refusal's number and name instead of ??
+      --json              one JSON object a line; of an address with all frames
+  @FILE                   read arguments from FILE
+  -h, -H, --help          print this
+  -v, -V, --version       print the version
+Addresses are hexadecimal; without any they are read from standard input.
+";
+
 /// What `gsym addr2line` is asked for.
 #[derive(Drop)]
 pub struct Answers {
@@ -22,12 +45,20 @@ pub struct Info {
     pub file: Vec<u8>,
 }
 
+/// What `gsym check` is asked for.
+#[derive(Drop)]
+pub struct Check {
+    pub json: bool,
+    pub files: Vec<Vec<u8>>,
+}
+
 #[derive(Drop)]
 pub enum Asked {
     Help,
     Version,
     Answers(Answers),
     Info(Info),
+    Check(Check),
 }
 
 // What one option sets.
@@ -172,10 +203,14 @@ impl Parse {
     fn letters(&mut self, alloc: Global, letters: &[u8]) -> Read {
         let mut rest = letters;
         while let Some((letter, after)) = rest.split_first() {
-            if self.other.is_some() {
-                return Ok(());
+            let setting = short_option(*letter);
+            // The name of a file may begin so, and must not end a run with the status 0.
+            if letters.len() > 1 && matches!(setting, Setting::Help | Setting::Version) {
+                let mut word = copy(alloc, b"-".as_slice())?;
+                word.extend_from_slice(letters)?;
+                return Err(Trouble::Misused("-h and -v stand alone in a word:", word));
             }
-            self.option(alloc, short_option(*letter), &[b'-', *letter])?;
+            self.option(alloc, setting, &[b'-', *letter])?;
             rest = after;
             if let Some(setting) = self.wants {
                 if rest.is_empty() {
@@ -268,6 +303,24 @@ fn info_asked(parse: Parse) -> Result<Asked, Trouble> {
     }
 }
 
+// What `gsym check` is asked for.
+fn check_asked(parse: Parse) -> Result<Asked, Trouble> {
+    let Parse {
+        view,
+        words,
+        of_answers,
+        ..
+    } = parse;
+    if let Some(word) = of_answers {
+        return Err(Trouble::Misused("gsym check has no such option:", word));
+    }
+    if words.is_empty() {
+        return Err(Trouble::Usage("FILE is missing"));
+    }
+    let json = matches!(view.form, Form::Json);
+    Ok(Asked::Check(Check { json, files: words }))
+}
+
 // What `gsym addr2line` is asked for.
 fn answers_asked(parse: Parse) -> Result<Asked, Trouble> {
     let Parse {
@@ -296,6 +349,9 @@ fn asked_of(parse: Parse, command: Option<Vec<u8>>) -> Result<Asked, Trouble> {
     }
     if is_word(&command, "info") {
         return info_asked(parse);
+    }
+    if is_word(&command, "check") {
+        return check_asked(parse);
     }
     Err(Trouble::Misused("no such command:", command))
 }

@@ -1,12 +1,16 @@
 //! Why no answer could be given, and how that is told.
 ghost use Rattle.std.specs.Prelude.{◌≡◌, ◌++◌, OnOk, IfOk, codes};
-ghost use Rattle.gsym_printed.specs.declared.view.Form.TheVariants.{Lines};
+ghost use Rattle.gsym_printed.specs.declared.view.Form.TheVariants.{Lines, Json};
 ghost use Rattle.gsym_printed.specs.Pieces.{shown_text};
 ghost use Rattle.gsym_tool.specs.declared.trouble.Trouble.TheVariants.{Memory};
 
+use super::options::USAGE;
 use gsym::Refusal;
 use std::alloc::{AllocError, Global};
 use std::io::{self, Write};
+
+/// The exit status where no answer could be given.
+pub const STATUS: u8 = 2;
 
 #[derive(Drop)]
 pub enum Trouble {
@@ -69,47 +73,86 @@ pub fn push_shown(alloc: Global, line: &mut Vec<u8>, bytes: &[u8]) -> io::Result
     Ok(())
 }
 
-fn push_file(alloc: Global, line: &mut Vec<u8>, name: &[u8], why: &str) -> io::Result<()>
-    ensures { OnOk result
-        (line.new.items ≡ ((line.old.items ++ shown_text Lines name.now) ++ codes ": ") ++ why.now) }
+/// Bytes as they stand in a string of JSON.
+#[tactic(auto, using(crate::proofs::Whole::whole))]
+pub fn push_json_text(alloc: Global, line: &mut Vec<u8>, bytes: &[u8]) -> io::Result<()>
+    ensures { OnOk result (line.new.items ≡ line.old.items ++ shown_text Json bytes.now) }
 {
-    push_shown(alloc, line, name)?;
-    push_str(line, ": ")?;
-    push_str(line, why)
+    let len = gsym_printed::json_text(bytes, &mut []);
+    let mut text = vec![in alloc; 0u8; len]?;
+    let _ = gsym_printed::json_text(bytes, &mut text);
+    line.extend_from_slice(&text)?;
+    Ok(())
 }
 
-fn push_trouble(alloc: Global, line: &mut Vec<u8>, trouble: &Trouble) -> io::Result<()> {
+fn push_file(alloc: Global, line: &mut Vec<u8>, name: &[u8]) -> io::Result<()>
+    ensures { OnOk result (line.new.items ≡ (line.old.items ++ shown_text Lines name.now) ++ codes ": ") }
+{
+    push_shown(alloc, line, name)?;
+    push_str(line, ": ")
+}
+
+/// Why there is no answer, without the word or the file that it is about.
+pub fn push_reason(line: &mut Vec<u8>, trouble: &Trouble) -> io::Result<()> {
     match trouble {
         Trouble::Usage(why) => push_str(line, why),
-        Trouble::Misused(why, word) => {
-            push_str(line, why)?;
-            push_str(line, " '")?;
-            push_shown(alloc, line, word)?;
-            push_str(line, "'")
-        }
+        Trouble::Misused(why, _) => push_str(line, why),
         Trouble::Memory => push_str(line, "out of memory"),
-        Trouble::Read(error) => write!(line, "standard input: {error}"),
-        Trouble::Write(error) => write!(line, "standard output: {error}"),
-        Trouble::Unread(name, error) => {
-            push_file(alloc, line, name, "")?;
-            write!(line, "{error}")
-        }
-        Trouble::File(name, why) => push_file(alloc, line, name, why),
-        Trouble::Refused(name, refusal) => {
-            push_file(alloc, line, name, "refused: ")?;
-            write!(line, "{}, ", refusal.number())?;
+        Trouble::Read(error) => write!(line, "{error}"),
+        Trouble::Write(error) => write!(line, "{error}"),
+        Trouble::Unread(_, error) => write!(line, "{error}"),
+        Trouble::File(_, why) => push_str(line, why),
+        Trouble::Refused(_, refusal) => {
+            write!(line, "refused: {}, ", refusal.number())?;
             push_str(line, gsym_printed::refusal_name(*refusal))
         }
     }
+}
+
+// What it is about, before the reason.
+fn push_about(alloc: Global, line: &mut Vec<u8>, trouble: &Trouble) -> io::Result<()> {
+    match trouble {
+        Trouble::Read(_) => push_str(line, "standard input: "),
+        Trouble::Write(_) => push_str(line, "standard output: "),
+        Trouble::Unread(name, _) => push_file(alloc, line, name),
+        Trouble::File(name, _) => push_file(alloc, line, name),
+        Trouble::Refused(name, _) => push_file(alloc, line, name),
+        _ => Ok(()),
+    }
+}
+
+// And the word that it is about, behind it.
+fn push_word(alloc: Global, line: &mut Vec<u8>, trouble: &Trouble) -> io::Result<()> {
+    if let Trouble::Misused(_, word) = trouble {
+        push_str(line, " '")?;
+        push_shown(alloc, line, word)?;
+        push_str(line, "'")?;
+    }
+    Ok(())
 }
 
 /// A line that tells it.
 pub fn told(alloc: Global, trouble: &Trouble) -> io::Result<Vec<u8>> {
     let mut line = Vec::new(alloc);
     push_str(&mut line, "gsym: ")?;
-    push_trouble(alloc, &mut line, trouble)?;
+    push_about(alloc, &mut line, trouble)?;
+    push_reason(&mut line, trouble)?;
+    push_word(alloc, &mut line, trouble)?;
     push_str(&mut line, "\n")?;
     Ok(line)
+}
+
+/// Tells it on standard error, where it can be told and is news.
+pub fn tell(rt: &HostRuntime, trouble: &Trouble) {
+    if !trouble.is_news() {
+        return;
+    }
+    if let Ok(line) = told(rt.alloc(), trouble) {
+        let _ = rt.stderr().write_all(&line);
+    }
+    if trouble.is_usage() {
+        let _ = eprint!(rt; "{USAGE}");
+    }
 }
 
 /// A line that tells of a word that is no address.
