@@ -1,6 +1,6 @@
-// Whole lookups on both sides: `lookup FILE check`, `lookup FILE time PASSES`, `lookup FILE rust|rattle KIND` (one pass, for
-// callgrind) or `lookup scale PASSES`. FILE may be `tables`, `rows` or `letters`, files that are made here. The Rust opens
-// its file once, as its users do; this reader has nothing to open.
+// Whole lookups on both sides: `lookup FILE check`, `lookup FILE time PASSES`, `lookup FILE rust|rattle KIND` (one
+// pass, for callgrind), `lookup scale4|scale8 PASSES` or `lookup runs PASSES`. FILE may be `tables`, `rows` or
+// `letters`, files that are made here. The Rust opens its file once, as its users do; this reader has nothing to open.
 mod made;
 mod shared;
 
@@ -69,10 +69,10 @@ fn rattle_pass(file: &[u8], addrs: &[u64], options: Options) -> u64 {
     sum
 }
 
-// Nanoseconds a lookup by name, by the number of entries.
-fn scale(passes: usize) {
+// Nanoseconds a lookup by name, by the number of entries of so many bytes.
+fn scale(width: u8, passes: usize) {
     for bits in 2..=20 {
-        let file = shared::aligned(made::plain(1 << bits));
+        let file = shared::aligned(made::plain(width, 1 << bits, 1));
         let mut state = 7;
         let addrs: Vec<u64> = (0..100_000).map(|_| 0x1000 + next(&mut state) % (16 << bits)).collect();
         let opened = facade::open(file.bytes()).unwrap();
@@ -82,6 +82,24 @@ fn scale(passes: usize) {
             || rattle_pass(file.bytes(), &addrs, Options::NAME),
         );
         println!("{} {:.1} {:.1}", 1 << bits, r * 1e4, q * 1e4);
+    }
+}
+
+// Nanoseconds a lookup by name among 100,000 entries, by how many of them stand at one address.
+fn runs(passes: usize) {
+    for (run, asked) in [(1, 100_000), (100, 100_000), (100_000, 500)] {
+        let file = shared::aligned(made::plain(4, 100_000, run));
+        let mut state = 7;
+        let span = u64::from(16 * (100_000 / run));
+        let addrs: Vec<u64> = (0..asked).map(|_| 0x1000 + next(&mut state) % span).collect();
+        let opened = facade::open(file.bytes()).unwrap();
+        let (r, q) = shared::medians(
+            passes,
+            || rust_pass(&opened, &addrs, Options::NAME),
+            || rattle_pass(file.bytes(), &addrs, Options::NAME),
+        );
+        let each = 1e9 / f64::from(asked);
+        println!("{run} {:.1} {:.1} {:.3}", r * each, q * each, q / r);
     }
 }
 
@@ -121,8 +139,11 @@ fn kinds(word: &str) -> (shared::Aligned, Vec<Kind>) {
 fn main() {
     let args: Vec<String> = std::env::args().skip(1).collect();
     let passes = || args.last().unwrap().parse().expect("passes");
-    if args[0] == "scale" {
-        return scale(passes());
+    match args[0].as_str() {
+        "scale4" => return scale(4, passes()),
+        "scale8" => return scale(8, passes()),
+        "runs" => return runs(passes()),
+        _ => {}
     }
     let (file, kinds) = kinds(&args[0]);
     let opened = facade::open(file.bytes()).expect("a file that opens");

@@ -105,7 +105,7 @@ enum {
 /* ---- what a check finds beside refusal numbers. A later library may have more: any number but 0 is a finding ---- */
 enum {
     GSYM_OFFSET_SIZE = 20,     /* an offset size other than 1, 2, 4 and 8 */
-    GSYM_NOT_RISING = 21,      /* the address table doesn't rise here */
+    GSYM_FALLING_TABLE = 21,   /* the address table falls here */
     GSYM_SUM_TOO_LARGE = 22,   /* the symbol ends above 2^64-1 */
     GSYM_STOPPED_PROGRAM = 23, /* a line program is stopped */
     GSYM_OPEN_LIST = 24        /* the address data list doesn't end in type 0 */
@@ -184,6 +184,10 @@ GSYM_ASSERT(sizeof(gsym_answer) == 80 && offsetof(gsym_answer, addr) == 8 && off
  * `count` records. A refusal writes none, nor does a lookup without both options, and what is past `count` stays.
  * Refusals: 1 to 14, the first met in the file's order. Without GSYM_CODE_INFO only 1 to 6 are, without GSYM_INLINING
  * only 1 to 9.
+ * Where several symbols stand at one address, as a linker that folds equal functions leaves them, the first of them in
+ * the file answers, at that address and past it, and it alone: where it doesn't cover the address, that is unknown (1),
+ * even if a later one would (docs/RULES.md, "Finding the entry"). The time to find it is the logarithm of the number of
+ * symbols, and one step for each that stands at the same address.
  */
 gsym_answer gsym_lookup(const uint8_t *file, size_t file_len, uint64_t addr, uint32_t options, gsym_frame *frames,
                         size_t frames_len);
@@ -202,7 +206,7 @@ gsym_listed gsym_block_frames(const uint8_t *block, size_t block_len, uint64_t s
 /*
  * The check of a whole file, before it is shipped: docs/RULES.md, "Checking a file".
  *   file, file_len        the bytes of the symbol file
- * It passes (0) exactly if it opens; its offset size is 1, 2, 4 or 8; its address table strictly rises; no symbol ends
+ * It passes (0) exactly if it opens; its offset size is 1, 2, 4 or 8; its address table never falls; no symbol ends
  * above 2^64-1; and of each entry the information and the name read, the address data list ends in type 0, and each
  * line table and each inline tree in it reads in full, also where a lookup would pass it over. Findings:
  *   2, 3, 4, 20                 of the tables; entry is 0
@@ -211,7 +215,7 @@ gsym_listed gsym_block_frames(const uint8_t *block, size_t block_len, uint64_t s
  * also be refused with 7 and 8, and with GSYM_INLINING too with 6 and 14: the file indexes, the strings of the file
  * table and the names of inlined calls are not judged, nor how many frames there are. Neither are items of other types
  * judged, what follows the end of a list, a program or a tree, and what no entry names.
- * The time is linear in the bytes that the entries name: a kernel's file of 20 MiB took 44 ms (bench/README.md). But
+ * The time is linear in the bytes that the entries name: a kernel's file of 20 MiB took 40 ms (bench/README.md). But
  * entries may share a name or a list, and it is read for each: in a file that was made to be slow every entry names one
  * nearly as long as the file, and the time grows with the number of entries times the file's length. So a file of which
  * nothing is known is checked where that does no harm, and not in a signal handler.
@@ -340,7 +344,7 @@ static inline const char *gsym_finding_name(uint32_t number)
 {
     static const char *const names[] = {
         "an offset size other than 1, 2, 4 and 8",
-        "the address table doesn't rise here",
+        "the address table falls here",
         "the symbol ends above 2^64-1",
         "a line program is stopped",
         "the address data list doesn't end in type 0",

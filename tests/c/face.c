@@ -495,12 +495,16 @@ static void check_of_tables(const places *p)
 static void check_of_entries(const places *p)
 {
     size_t plain = p->tables_end, last = plain + 16;
-    /* the address table: 0, 0x100, 0x200, of two bytes each; of two neighbours the later is the faulty one */
-    CHECK(found_changed(48, 0x100, 2, GSYM_NOT_RISING, 1));
-    CHECK(found_changed(48, 0x1ff, 2, GSYM_NOT_RISING, 1));
-    CHECK(found_changed(52, 0xff, 2, GSYM_NOT_RISING, 2));
-    CHECK(found_changed(50, 0x200, 2, GSYM_NOT_RISING, 2));
-    CHECK(found_changed(50, 0xffff, 2, GSYM_NOT_RISING, 2));
+    /* the address table: 0, 0x100, 0x200, of two bytes each; of two neighbours the later is the faulty one, and equal
+     * ones are well */
+    CHECK(found_changed(48, 0x101, 2, GSYM_FALLING_TABLE, 1));
+    CHECK(found_changed(48, 0x1ff, 2, GSYM_FALLING_TABLE, 1));
+    CHECK(found_changed(52, 0xff, 2, GSYM_FALLING_TABLE, 2));
+    CHECK(found_changed(50, 0x201, 2, GSYM_FALLING_TABLE, 2));
+    CHECK(found_changed(50, 0xffff, 2, GSYM_FALLING_TABLE, 2));
+    CHECK(found_changed(48, 0x100, 2, 0, 0));
+    CHECK(found_changed(52, 0x100, 2, 0, 0));
+    CHECK(found_changed(50, 0x200, 2, 0, 0));
     for (uint32_t k = 0; k < 3; k++) {
         CHECK(found_changed(p->offsets + 4 * k, UINT32_MAX, 4, GSYM_UNREAD_INFO, k));
         CHECK(found_changed(p->offsets + 4 * k, sample.len - 7, 4, GSYM_UNREAD_INFO, k));
@@ -599,7 +603,7 @@ static void check_of_items(void)
 
 static void finding_names(void)
 {
-    static const char *const own[] = {"an offset size other than 1, 2, 4 and 8", "the address table doesn't rise here",
+    static const char *const own[] = {"an offset size other than 1, 2, 4 and 8", "the address table falls here",
                                       "the symbol ends above 2^64-1", "a line program is stopped",
                                       "the address data list doesn't end in type 0"};
     CHECK(strcmp(gsym_finding_name(0), "passed") == 0);

@@ -3,8 +3,8 @@
 
 The files of made.py are held to what made.py says of them and to the model (tests/vectors/lookup_model.py); real files,
 their torn prefixes, their changed bytes, the inputs of docs/DIFFERENCES.md and random files to the model; and in files
-that pass lookups are refused with no number but those of that section. Prints what was done, and what differs with the
-shortest file that does; with `-v` also what each real file is told.
+that pass lookups are refused with no number but those of that section, and tell the symbol that the model does. Prints
+what was done, and what differs with the shortest file that does; with `-v` also what each real file is told.
 """
 import collections
 import ctypes
@@ -33,25 +33,42 @@ class Told(ctypes.Structure):
 
 
 class Answer(ctypes.Structure):
-    _fields_ = [("number", ctypes.c_uint32), ("rest", ctypes.c_uint32 * 19)]
+    _fields_ = [("number", ctypes.c_uint32), ("has_code", ctypes.c_uint32), ("addr", ctypes.c_uint64)]
+    _fields_ += [("size", ctypes.c_uint32), ("line", ctypes.c_uint32), ("texts", ctypes.c_uint64 * 6)]
+    _fields_ += [("count", ctypes.c_uint64)]
+
+    def numbers(self):
+        """As the model tells them: symbol, size, name, whether there is code info, directory, file, line, count."""
+        name_at, name_len, *others = self.texts
+        return [self.addr, self.size, name_at, name_len, self.has_code, *others, self.line, self.count]
 
 
-class Library:
+class Lookups:
+    """A shared library that is asked for lookups alone."""
+
     def __init__(self, path):
-        lib = ctypes.CDLL(os.path.abspath(path))
-        self.checked, self.looked_up = lib.gsym_check_2, lib.gsym_lookup_2
-        self.checked.restype, self.checked.argtypes = Told, [ctypes.c_char_p, ctypes.c_size_t]
+        self.all = ctypes.CDLL(os.path.abspath(path))
+        self.looked_up = self.all.gsym_lookup_2
         self.looked_up.restype = Answer
         self.looked_up.argtypes = [ctypes.c_char_p, ctypes.c_size_t, ctypes.c_uint64, ctypes.c_uint32]
         self.looked_up.argtypes += [ctypes.c_void_p, ctypes.c_size_t]
         self.frames = ctypes.create_string_buffer(64 * 56)
 
+    def lookup(self, data, addr, opts, room):
+        return self.looked_up(data, len(data), addr, opts, self.frames, room)
+
+
+class Library(Lookups):
+    """The same, asked for the check of a file too."""
+
+    def __init__(self, path):
+        super().__init__(path)
+        self.checked = self.all.gsym_check_2
+        self.checked.restype, self.checked.argtypes = Told, [ctypes.c_char_p, ctypes.c_size_t]
+
     def check(self, data, length=None):
         told = self.checked(data, len(data) if length is None else length)
         return told.number, told.entry
-
-    def lookup(self, data, addr, opts, room):
-        return self.looked_up(data, len(data), addr, opts, self.frames, room).number
 
 
 class Judge:
@@ -80,22 +97,42 @@ class Judge:
 
     def lookups(self, data):
         f = model.Opened(data)
+        entries = [f.entry(i) for i in range(f.count)]
+        twins = [i for i in range(1, f.count) if entries[i] == entries[i - 1]]
         addresses = {0, 1, made.TOP - 1, f.base, max(f.base - 1, 0)}
-        some = range(f.count) if f.count < 6 else {0, 1, f.count // 2, f.count - 2, f.count - 1}
+        some = range(f.count)
+        if f.count >= 6:
+            some = {0, 1, f.count // 2, f.count - 2, f.count - 1, *twins[:2], *twins[-2:]}
         for i in some:
-            start = f.base + f.entry(i)
+            start = f.base + entries[i]
             size = f.info(i)[0]
             addresses |= {start, start + size // 2, max(start + size - 1, 0), start + size, start + 1, start + 0x100}
+            addresses.add(max(start - 1, 0))
         self.counts["passed files"] += 1
-        for addr in addresses:
+        for addr in {addr % made.TOP for addr in addresses}:
             for (opts, room), given in GIVEN.items():
                 self.counts["lookups"] += 1
-                number = self.library.lookup(data, addr % made.TOP, opts, room)
-                if number in given:
-                    self.given[number].add(opts)
+                got = self.library.lookup(data, addr, opts, room)
+                if got.number in given:
+                    self.given[got.number].add(opts)
                 else:
-                    what = f"a lookup of {addr:#x}, options {opts}, room {room}: {number}"
+                    what = f"a lookup of {addr:#x}, options {opts}, room {room}: {got.number}"
                     self.differs("lookups in files that pass", data, what)
+                if (opts, room) == (0, 0) or (twins and (opts, room) == (3, 64)):
+                    self.looked_up_by_model(data, addr, opts, room, got, twins)
+
+    def looked_up_by_model(self, data, addr, opts, room, got, twins):
+        """The whole answer is the model's, but the records. Counted is what is found of equal entries in a row, where
+        the first and the last of them differ in size or name."""
+        self.counts["lookups by the model"] += 1
+        number, want, _ = model.answer(data, addr, opts, room)
+        if (got.number, got.numbers()) != (number, want):
+            what = f"a lookup of {addr:#x}, options {opts}: model {number} {want}, library {got.number} {got.numbers()}"
+            self.differs("lookups by the model", data, what)
+        if twins and number == 0:
+            f = model.Opened(data)
+            row = [i for i in range(f.count) if f.entry(i) == want[0] - f.base]
+            self.counts["lookups of equal entries"] += f.info(row[0])[:2] != f.info(row[-1])[:2]
 
 
 def corpus():
@@ -171,6 +208,7 @@ def main():
     c = judge.counts
     missing = sorted({0, *made.NUMBERS} - judge.numbers)
     missing += [f"{n} by a lookup" for n, options in judge.given.items() if not options]
+    missing += [] if c["lookups of equal entries"] else ["one of equal entries"]
     made_files = c["files that pass"] + c["single faults"]
     print(
         f"{made_files:,} files made, {c['pairs']:,} pairs of faults, {c['real files']} real files,"
@@ -178,6 +216,7 @@ def main():
         f" {c['prefixes']:,} torn ones ({c['prefixes by the model']:,} by the model),"
         f" {c['changed bytes']:,} changed bytes, {c['random files']:,} random files,"
         f" {c['lookups']:,} lookups in {c['passed files']:,} files that pass"
+        f" ({c['lookups by the model']:,} by the model, {c['lookups of equal entries']:,} found one of equal entries that differ)"
     )
     if c["real files"] == 1:
         print(f"tests/check: no real files at {corpus()}: not tried", file=sys.stderr)

@@ -209,16 +209,16 @@ TABLE_FAULTS = {
 
 
 # Faults of an entry that are no item's, by number: a function of the file, the entry's index and chance.
-def equal(f, i, r):
-    f.entries[i].addr = f.entries[i - 1].addr
-
-
 def falls(f, i, r):
     f.entries[i].addr = f.entries[i - 1].addr - 1
 
 
 def falls_to_0(f, i, r):
     f.entries[i].addr = 0
+
+
+def falls_some(f, i, r):
+    f.entries[i].addr = r.randrange(f.entries[i - 1].addr) if f.entries[i - 1].addr > 0 else -1
 
 
 def left(n):
@@ -257,7 +257,7 @@ def end(tail):
 
 
 ENTRY_FAULTS = {
-    21: [equal, falls, falls_to_0],
+    21: [falls, falls_to_0, falls_some],
     5: [left(n) for n in range(8)]
     + [offset(lambda end: end + 1), offset(lambda end: 2**32 - 1), offset(lambda end: 2**31)],
     22: [size(n) for n in (0, 1, 2, 0x100, 2**32)],
@@ -415,7 +415,21 @@ GOOD_ITEMS = [
 ]
 
 
+def equal(f, i, r):
+    """Equal neighbours pass: an entry as the one before it, or all of them from there on."""
+    for e in f.entries[i : r.choice([i + 1, len(f.entries)])]:
+        e.addr = f.entries[max(i - 1, 0)].addr
+    apart(f)
+
+
+def apart(f):
+    """Entries with sizes and names of their own, as far as the names go round, so that equal ones are told apart."""
+    for i, e in enumerate(f.entries):
+        e.size, e.name = 16 + i, place_of(GOOD_NAMES[(i + 1) % len(GOOD_NAMES)])
+
+
 GOOD_ENTRIES = [
+    equal,
     *(size(n) for n in (-1, -2, -16)),
     *(name(place_of(n)) for n in GOOD_NAMES),
     name(2),
@@ -484,6 +498,7 @@ def good(r):
         f.base, f.width, f.entries[0].addr, f.entries[0].size, f.entries[0].items = base, width, addr, 0, []
         yield done(f, "base and entry are 2^64-1, or 0")
     yield slow(40, 10), (0, 0), "a shared list"
+    yield from runs(r)
     # what no entry names, and what stands behind type 0, may be anything
     for kind, blocks in ITEM_FAULTS.items():
         f = File(r)
@@ -491,6 +506,37 @@ def good(r):
         block = block(0x1000) if callable(block) else block
         f.entries[1].end = u32(0) + u32(4) + u32(t) + u32(len(block)) + block
         yield done(f, f"{kind} behind type 0")
+
+
+def with_addresses(r, addresses, **fields):
+    f = File(r, len(addresses))
+    for e, addr in zip(f.entries, addresses):
+        e.addr = addr
+    apart(f)
+    for key, value in fields.items():
+        setattr(f, key, value)
+    return f
+
+
+def runs(r):
+    """Tables that never fall, with equal entries in a row: they pass."""
+    some = [(5, 5), (0, 0), (5, 5, 9), (3, 5, 5), (3, 5, 5, 9), (5, 5, 5), (5, 5, 9, 9)]
+    some.append((3, 5, 5, 5, 9, 9, 9, 255, 255))
+    for addresses in some:
+        for width in (1, 2, 4, 8):
+            yield done(with_addresses(r, addresses, width=width), f"equal entries pass: {addresses}, {width} bytes")
+    for addr in (0, 1, 0xFF):
+        for entries in (2, 3, 40):
+            yield done(with_addresses(r, [addr] * entries), f"{entries} entries of {addr} pass")
+    last = [(0, TOP - 1, 8), (1, TOP - 2, 8), (HIGH, 0xFFFF, 2), (TOP - 1, 0, 1), (TOP - 256, 255, 1)]
+    for base, addr, width in last:
+        f = with_addresses(r, [0, addr, addr, addr], base=base, width=width)
+        for e in f.entries:
+            e.size, e.items = 0, []  # names alone are apart
+        yield done(f, f"equal entries at 2^64-1 pass, base {base:#x}")
+    for _ in range(200):
+        count, few = r.randrange(2, 40), r.choice([1, 2, 3, 10, 200])
+        yield done(with_addresses(r, sorted(r.randrange(few) for _ in range(count))), "runs by chance pass")
 
 
 def shared_child(n):
@@ -566,16 +612,36 @@ def singles(r):
             a.items.append(Item(2, lambda s, fits=fits, block=block: block(fits(s))))
             b.shares, b.items = i, [Item(2, b"", 11)]
             yield done(f, f"11 at {i + 1} in a list of {i}")
-    # falls and equal entries in long tables: the first is told, and entries rise again behind it
+    # an entry is judged against the one before it; the first that falls is told
+    falling = [((1, 0), 1), ((5, 3, 5), 1), ((5, 3, 3), 1), ((5, 3, 4), 1), ((5, 5, 3), 2), ((5, 5, 4), 2)]
+    falling += [((3, 5, 3), 2), ((5, 5, 3, 3, 5), 2), ((255, 255, 254), 2), ((3, 5, 5, 3), 3), ((0, 0, 1, 0), 3)]
+    falling += [((5, 5, 5, 4, 9, 8), 3), ((3, 3, 3, 2, 2, 2, 3), 3), ((0, 1, 1, 2, 2, 1, 1), 5)]
+    for addresses, i in falling:
+        for width in (1, 2, 4, 8):
+            f = with_addresses(r, addresses, width=width)
+            f.entries[i].faults.add(21)
+            yield done(f, f"entries fall: {addresses}, {width} bytes")
+    # the other faults in an entry that is equal to the one before it
+    for number in (*ENTRY_FAULTS, *ITEM_FAULTS):
+        for i in (1, 2):
+            for _ in range(3 if number != 21 else 0):
+                f = File(r)
+                f.entries[i].addr = f.entries[i - 1].addr
+                apart(f)
+                put(f, i, r, number)
+                yield done(f, f"{number} at {i}, which is equal to the one before it")
+    # falls in long tables with runs: the first is told, and entries rise again behind it
     for _ in range(300):
         f = File(r, r.randrange(2, 40))
         f.width = r.choice([2, 4, 8])
         for e in f.entries:
             e.items = []
-        for _ in range(r.randrange(1, 4)):
-            i = r.randrange(1, len(f.entries))
-            f.entries[i].addr = max(0, f.entries[i - 1].addr - r.choice([0, 0, 1, 0x20, 0x40, 2**20]))
-            falls_at = [n for n in range(1, len(f.entries)) if f.entries[n].addr <= f.entries[n - 1].addr]
+        falls_at = []
+        while not falls_at:
+            for _ in range(r.randrange(1, 4)):
+                i = r.randrange(1, len(f.entries))
+                f.entries[i].addr = max(0, f.entries[i - 1].addr - r.choice([0, 0, 1, 0x20, 0x40, 2**20]))
+            falls_at = [n for n in range(1, len(f.entries)) if f.entries[n].addr < f.entries[n - 1].addr]
         for n in falls_at:
             f.entries[n].faults.add(21)
         yield done(f, "falls in a long table")

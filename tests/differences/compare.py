@@ -40,8 +40,8 @@ def short(answer):
 
 
 def by_model(file, address, opts, room, whole=False):
-    """RULES' answer; None where several entries of a falling table fit, which it leaves to the reader. The whole
-    answer has the symbol's address and size too."""
+    """RULES' answer; None where several entries of a falling table are allowed, which it leaves to the reader. The
+    whole answer has the symbol's address and size too."""
     try:
         number, answer, records = lookup_model.answer(file, address, opts, room)
     except AssertionError:

@@ -77,7 +77,14 @@ def some_items(r):
 def some_file(r):
     width = r.choice([1, 1, 2, 4, 8])
     base = r.choice([0, 0x1000, 2**64 - 256, r.randrange(2**64)])
-    offsets = sorted(r.sample(range(0, 250, 10), r.randrange(1, 4)))
+    if r.random() < 0.7:
+        offsets = sorted(r.sample(range(0, 250, 10), r.randrange(1, 4)))
+    elif r.random() < 0.7:  # with equal entries in a row
+        first = [0] * r.choice([0, 1, 1, 1])
+        offsets = first + sorted(r.choices(range(r.choice([0, 10, 10]), 250, 80), k=r.randrange(2, 6)))
+    else:  # the same with so many that the search takes two turns at once
+        step = r.choice([1, 2, 4, 30])
+        offsets = [r.choice([0, 10]), *sorted(r.choices(range(10, 250, step), k=r.randrange(20, 60)))]
     names = ["main", "inner", 0, at("b.c"), len(TABLE), 0x1000] if r.random() < 0.2 else ["main"]
     entries = [(o, info(r.choice([0, 1, 16, 64, 2**32 - 1]), r.choice(names), *some_items(r))) for o in offsets]
     strings = TABLE + r.choice([b"", b"\xff\0", b"\xc3\xa9\0", b"open"])
@@ -92,29 +99,48 @@ def some_file(r):
     return bytes(file), near % 2**64
 
 
-def inside(file):
-    """Whether the address table strictly rises and no symbol ends above 2^64-1, as far as the tables can be read."""
-    word = lambda place, size: int.from_bytes(file[place : place + size], "little")
-    width, base, count = word(6, 1), word(8, 8), word(16, 4)
+def addresses(file):
+    """The address table, where it can be read."""
+    width, count = (int.from_bytes(file[place : place + size], "little") for place, size in ((6, 1), (16, 4)))
     if len(file) < 48 + count * width or width not in (1, 2, 4, 8):
-        return True
-    table = [word(48 + width * i, width) for i in range(count)]
-    offsets = (48 + count * width + 3) // 4 * 4
+        return []
+    return [int.from_bytes(file[48 + width * i : 48 + width * (i + 1)], "little") for i in range(count)]
+
+
+def inside(file, address):
+    """Whether the address table never falls, the address isn't past equal entries that the table begins with, and no
+    symbol ends above 2^64-1, as far as the tables can be read."""
+    word = lambda place, size: int.from_bytes(file[place : place + size], "little")
+    table, base = addresses(file), word(8, 8)
+    offsets = (48 + len(table) * word(6, 1) + 3) // 4 * 4
     ends = [base + entry + word(word(offsets + 4 * i, 4), 4) for i, entry in enumerate(table)]
-    return all(a < b for a, b in zip(table, table[1:])) and all(end < 2**64 for end in ends)
+    never_falls = all(a <= b for a, b in zip(table, table[1:]))
+    return never_falls and not past_first_run(table, address - base) and all(end < 2**64 for end in ends)
+
+
+def past_first_run(table, wanted):
+    """Whether what is wanted is above equal entries that the table begins with, and below the next that differs."""
+    if len(table) < 2 or table[0] != table[1]:
+        return False
+    later = [entry for entry in table if entry != table[0]]
+    return table[0] < wanted and (not later or wanted < later[0])
 
 
 def main():
     count, seed = (int(w) for w in (sys.argv[2:] + ["20000", "1"][len(sys.argv) - 2 :]))
-    r, cases, expected, outside = random.Random(seed), [], [], 0
+    r, cases, expected, outside, runs, first_runs, long = random.Random(seed), [], [], 0, 0, 0, 0
     for _ in range(count):
         file, address = some_file(r)
         opts = r.choice([0, 1, 2, 3, 3, 3, 3])
         OUTSIDE.clear()
         said = by_model(file, address, opts, 64, True)
-        if OUTSIDE or said in (None, "?13", "?14") or not inside(file):
+        if OUTSIDE or said in (None, "?13", "?14") or not inside(file, address):
             outside += 1
             continue
+        table = addresses(file)
+        runs += any(a == b for a, b in zip(table, table[1:]))
+        first_runs += len(table) > 1 and table[0] == table[1]
+        long += len(table) > 16
         cases.append(("", file, address, opts, 64, 0))
         expected.append(said)
     differ = [(c, w, g) for c, w, g in zip(cases, expected, by_rust(sys.argv[1], cases, True)) if w != g]
@@ -122,8 +148,9 @@ def main():
         print(f"inside: {file.hex()} at {address:#x}, options {opts}: RULES {want}, the Rust {got}")
     refused = {w for w in expected if w.startswith("?")}
     print(
-        f"inside: {len(cases)} random files inside the domain, {sum(w in refused for w in expected)} of them "
-        f"refused with {len(refused)} numbers ({outside} more were outside): "
+        f"inside: {len(cases)} random files inside the domain, {runs} of them with equal entries in a row, "
+        f"{first_runs} that begin with such, {long} of more than 16 entries, "
+        f"{sum(w in refused for w in expected)} refused with {len(refused)} numbers ({outside} more were outside): "
         f"the Rust differs from RULES on {len(differ)}"
     )
     return 1 if differ else 0

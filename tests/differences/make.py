@@ -49,11 +49,31 @@ def choosing():
     apart = [(1, info(4, "main", END)), (5, info(4, "outer", END)), (5, info(16, "inner", END))]
     for address in [5, 10]:
         case(f"equal-later-{address}", gsym(apart, base=0), address)
+    # the run that the table begins with, asked past it; and a run further on, in between and at the next entry
+    short = [(5, info(2, "main", END)), (5, info(16, "outer", END))]
+    for address in [5, 8]:
+        case(f"equal-first-small-{address}", gsym(short, base=0), address)
+    case("equal-first-size-0", gsym([(5, info(0, "main", END)), (5, info(2, "outer", END))], base=0), 6)
+    case("equal-later-size-0", gsym([(5, info(2, "main", END)), (5, info(0, "outer", END))], base=0), 8)
+    inner = [(1, info(4, "main", END)), (5, info(16, "outer", END)), (5, info(8, "inner", END))]
+    for address in [5, 8, 9]:
+        case(f"equal-inner-{address}", gsym(inner + [(9, info(4, "leaf", END))], base=0), address)
+    small = [(1, info(4, "main", END)), (5, info(2, "outer", END)), (5, info(16, "inner", END))]
+    for address in [5, 8]:
+        case(f"equal-inner-small-{address}", gsym(small + [(9, info(4, "leaf", END))], base=0), address)
     fall = [(9, info(0, "main", END)), (5, info(0, "outer", END))]
     case("falling-two", gsym(fall, base=0), 6)
     fall = [(1, info(0, "main", END)), (9, info(0, "outer", END)), (5, info(0, "inner", END))]
     case("falling-three", gsym(fall, base=0), 9)
     case("falling-several", gsym(fall, base=0), 6)
+    names = ["main", "outer", "inner", "leaf", "a.c"]
+    fall = [(offset, info(0, name, END)) for offset, name in zip([5, 5, 3, 5, 5], names)]
+    for address in [4, 5, 7]:
+        case(f"falling-equal-{address}", gsym(fall, base=0), address)
+    fall = [(offset, info(0, name, END)) for offset, name in zip([1, 9, 5, 5, 12], names)]
+    case("falling-run-behind", gsym(fall, base=0), 10)
+    fall = [(offset, info(0, name, END)) for offset, name in zip([1, 1, 9, 5, 5], names)]
+    case("falling-several-equal", gsym(fall, base=0), 6)
     case("sum-wraps", one(END, size=1, base=TOP), TOP)
     whole = one()
     case("info-7", whole[:-1])

@@ -128,6 +128,60 @@ static void check_found(bytes file, uint64_t addr, uint32_t options, size_t room
     }
 }
 
+static int is_width(uint64_t width) { return width == 1 || width == 2 || width == 4 || width == 8; }
+
+/* whether the name at that offset reads: a string of the string table, which lies in the file, that is UTF-8 */
+static int is_name_at(bytes file, uint64_t offset)
+{
+    uint64_t table = number_at(file.at + 20, 4), size = number_at(file.at + 24, 4);
+    if (offset >= size)
+        return 0;
+    const uint8_t *at = file.at + table + offset, *end = memchr(at, 0, (size_t)(size - offset));
+    return end != 0 && is_utf8(at, (size_t)(end - at));
+}
+
+/* whether an entry whose information is at that place may have the answer: 5 or 1 as the information says, 6 where its
+ * name doesn't read, else the entry's address, size and name */
+static int is_of_entry(bytes file, uint64_t symbol, uint64_t place, uint64_t addr, gsym_answer a)
+{
+    if (place > file.len || file.len - place < 8)
+        return a.number == 5;
+    uint64_t size = number_at(file.at + place, 4), name = number_at(file.at + place + 4, 4);
+    if (size != 0 && addr - symbol >= size)
+        return a.number == 1;
+    if (!is_name_at(file, name))
+        return a.number == 6;
+    return a.number == 0 && a.addr == symbol && a.size == size && a.name.place == number_at(file.at + 20, 4) + name;
+}
+
+/* A lookup without code info in a file that opens: the answer is that of an entry that is allowed (RULES, "Finding the
+ * entry"). The table is passed once, from run to run of equal entries: a run's first is allowed where it is not above
+ * what is wanted and the next run is. In a table that never falls that is one entry alone. */
+static void check_entry(bytes file, uint64_t addr, gsym_answer a)
+{
+    HOLDS(file.len >= 48, "a file that opens has a header");
+    uint64_t width = file.at[6], base = number_at(file.at + 8, 8), entries = number_at(file.at + 16, 4);
+    uint64_t tables = ((48 + entries * width + 3) & ~(uint64_t)3) + 4 * entries;
+    HOLDS(tables <= file.len && number_at(file.at + 20, 4) + number_at(file.at + 24, 4) <= file.len,
+          "a file that opens has its tables");
+    const uint8_t *table = file.at + 48, *offsets = file.at + tables - 4 * entries;
+    if (!is_width(width) || entries == 0 || addr < base || number_at(table, (int)width) > addr - base) {
+        HOLDS(a.number == 1, "1 for another offset size, without entries, below the base and below the first entry");
+        return;
+    }
+    uint64_t first = 0, entry = number_at(table, (int)width);
+    int is_told = 0;
+    for (uint64_t i = 1; i <= entries && !is_told; i++) {
+        uint64_t next = i < entries ? number_at(table + i * width, (int)width) : 0;
+        if (i < entries && next == entry)
+            continue;
+        if (entry <= addr - base && (i == entries || next > addr - base))
+            is_told = is_of_entry(file, base + entry, number_at(offsets + 4 * first, 4), addr, a);
+        first = i, entry = next;
+    }
+    HOLDS(is_told, "the answer is that of an entry that is allowed, of equal ones in a row the first");
+}
+
 /* one lookup, judged by itself */
 static looked look(bytes file, uint64_t addr, uint32_t options, size_t room, int at_end)
 {
@@ -145,6 +199,8 @@ static looked look(bytes file, uint64_t addr, uint32_t options, size_t room, int
         check_refusal(file, l.a, options);
     else
         check_found(file, addr, options, room, &l);
+    if (!(options & GSYM_CODE_INFO) && (l.a.number < 2 || l.a.number > 4))
+        check_entry(file, addr, l.a);
     return l;
 }
 
@@ -216,9 +272,8 @@ static int is_closed(bytes file, uint64_t place)
 static void check_told(bytes file, gsym_finding f)
 {
     uint64_t width = file.at[6], base = number_at(file.at + 8, 8), entries = number_at(file.at + 16, 4), before = 0;
-    int is_width = width == 1 || width == 2 || width == 4 || width == 8;
-    HOLDS((f.number == 20) == !is_width, "20 is given for another offset size and nothing else");
-    if (!is_width)
+    HOLDS((f.number == 20) == !is_width(width), "20 is given for another offset size and nothing else");
+    if (!is_width(width))
         return;
     HOLDS(f.number == 0 || f.entry < entries, "the entry that is told is there");
     const uint8_t *table = file.at + 48, *offsets = file.at + ((48 + entries * width + 3) & ~(uint64_t)3);
@@ -227,10 +282,10 @@ static void check_told(bytes file, gsym_finding f)
         int reads = place <= file.len && file.len - place >= 8;
         uint64_t size = reads ? number_at(file.at + place, 4) : 0;
         int fits = entry <= UINT64_MAX - base && size <= UINT64_MAX - base - entry;
-        uint32_t first = i > 0 && entry <= before ? 21 : !reads ? 5 : !fits ? 22 : 0;
+        uint32_t first = i > 0 && entry < before ? 21 : !reads ? 5 : !fits ? 22 : 0;
         before = entry;
         if (f.number == 0 || i < f.entry) {
-            HOLDS(first == 0, "an entry below the told one rises, its information reads and its sum is small");
+            HOLDS(first == 0, "an entry below the told one doesn't fall, its information reads and its sum is small");
             HOLDS(is_closed(file, place + 8), "the list of an entry below the told one ends in type 0");
         } else {
             HOLDS(first == 0 ? f.number != 21 && f.number != 5 && f.number != 22 : f.number == first,

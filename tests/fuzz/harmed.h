@@ -16,12 +16,58 @@ static int harm(void)
     return word == 0 ? 0 : atoi(word);
 }
 
+/* Entry k of a file's address table, and where its data offset stands; the tables are there. */
+static uint64_t harmed_number(const uint8_t *at, uint64_t bytes)
+{
+    uint64_t n = 0;
+    while (bytes-- > 0)
+        n = n << 8 | at[bytes];
+    return n;
+}
+
+static uint64_t entry_of(const uint8_t *file, uint64_t k)
+{
+    return harmed_number(file + 48 + k * file[6], file[6]);
+}
+
+static uint64_t offset_of(const uint8_t *file, uint64_t k)
+{
+    return ((48 + harmed_number(file + 16, 4) * file[6] + 3) & ~(uint64_t)3) + 4 * k;
+}
+
+/* A copy of a file in which the first of equal entries in a row names the data of the last, or (`which` is 1) of the
+ * first that covers the address: a lookup in it answers with the wrong one of them. */
+static const uint8_t *other_of_a_run(const uint8_t *file, size_t len, uint64_t addr, int which)
+{
+    static uint8_t copy[1 << 20];
+    if (len < 52 || len > sizeof copy || (file[6] != 1 && file[6] != 2 && file[6] != 4 && file[6] != 8))
+        return file;
+    uint64_t entries = harmed_number(file + 16, 4), base = harmed_number(file + 8, 8), first = 0;
+    if (offset_of(file, entries) > len)
+        return file;
+    memcpy(copy, file, len);
+    for (uint64_t k = 1; k < entries; k++) {
+        uint64_t place = harmed_number(copy + offset_of(copy, first), 4), size = 0;
+        if (entry_of(file, k) != entry_of(file, first)) {
+            first = k;
+            continue;
+        }
+        if (place <= len && len - place >= 8)
+            size = harmed_number(file + place, 4);
+        if (which == 0 || (size != 0 && addr - base - entry_of(file, first) >= size))
+            memcpy(copy + offset_of(copy, first), file + offset_of(file, k), 4);
+    }
+    return copy;
+}
+
 static gsym_answer harmed_lookup(const uint8_t *file, size_t len, uint64_t addr, uint32_t options, gsym_frame *frames,
                                  size_t room)
 {
     static unsigned calls;
     static volatile uint8_t seen;
-    gsym_answer a = gsym_lookup(file, len, addr, options, frames, room);
+    int of_a_run = harm() == 34 || harm() == 35;
+    const uint8_t *asked_of = of_a_run ? other_of_a_run(file, len, addr, harm() - 34) : file;
+    gsym_answer a = gsym_lookup(asked_of, len, addr, options, frames, room);
     calls++;
     switch (harm()) {
     case 1: seen = file[len]; break;
@@ -41,6 +87,10 @@ static gsym_answer harmed_lookup(const uint8_t *file, size_t len, uint64_t addr,
     case 15: if (a.number == 0 && (options & 3) == 1) memset(&a, 0, sizeof a), a.number = 7; break;
     case 16: if (a.number == 0 && (options & 3) == 0) a.size = 0; break;
     case 17: if (a.number == 0 && options > 3) a.line++; break;
+    case 36: if (a.number == 0 && a.addr != addr) memset(&a, 0, sizeof a), a.number = 1; break;
+    case 37: if (a.number == 0 && a.addr > 0 && (a.size == 0 || addr - a.addr + 1 < a.size)) a.addr--; break;
+    case 38: if (a.number == 0 && a.size != 0 && a.size < UINT32_MAX) a.size++; break;
+    case 39: if (a.number == 0 && a.count == 0) memset(&a, 0, sizeof a), a.number = 6; break;
     default: break;
     }
     (void)seen;
@@ -84,6 +134,11 @@ static gsym_finding harmed_check(const uint8_t *file, size_t len)
     case 31: if (f.number != 0) f.number += calls % 2; break;
     case 32: if (f.number == 0) f.entry = 1; break;
     case 33: if (f.number == GSYM_TOO_DEEP) f.number = GSYM_TOO_MANY_FRAMES; break;
+    case 40:
+        for (uint64_t k = 1; f.number == 0 && k < harmed_number(file + 16, 4); k++)
+            if (entry_of(file, k) == entry_of(file, k - 1))
+                f.number = GSYM_FALLING_TABLE, f.entry = (uint32_t)k;
+        break;
     default: break;
     }
     (void)seen;

@@ -189,7 +189,8 @@ static void new_file(maker *m)
         put(m, 0, 4);
     for (uint64_t i = 0; i < entries; i++) {
         put(m, roll(12) == 0 ? some_number() : at, (int)width);
-        at += roll(8) == 0 ? 0 - roll(low) : 1 + roll(low);
+        uint64_t step = roll(8);
+        at += step == 0 ? 0 - roll(low) : step == 1 ? 0 : 1 + roll(low);
     }
     put(m, 0, (int)((HEAD - m->len) & 3));
     for (uint64_t i = 0; i < entries; i++)

@@ -28,7 +28,7 @@ static void change_header(maker *m, bytes f)
 
 static void change_tables(maker *m, bytes f, shape s, size_t entry)
 {
-    size_t other = roll(s.entries);
+    size_t other = entry > 0 && roll(4) == 0 ? entry - 1 : roll(s.entries);
     switch (roll(4)) {
     case 0:
         put_over(m, HEAD + HEADER + entry * s.width, entry_at(f, s, other) + roll(3) - 1, (int)s.width);

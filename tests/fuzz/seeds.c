@@ -1,7 +1,8 @@
 /*
  * seeds.c - the first inputs of the fuzzing target: `seeds FOLDER FILE...`. Of each symbol file: lookups inside symbols
  * spread over its table, at their starts and past their ends, with room for all and for few frames, the inline items of
- * these symbols as blocks of their own, and its first bytes alone. A large file gives fewer inputs than a small one.
+ * these symbols as blocks of their own, and its first bytes alone. A large file gives fewer inputs than a small one,
+ * and a small one some in which an entry of its address table is the same as the one before it.
  */
 #include "head.h"
 
@@ -47,6 +48,25 @@ static void block_seeds(bytes f, shape s, size_t entry)
     }
 }
 
+/* an entry as the one before it, and lookups at both, past them and where the first of them ends */
+static void twin_seeds(bytes f, shape s, size_t entry)
+{
+    uint8_t kept[8], *at = input + HEAD + HEADER + entry * s.width;
+    memcpy(kept, at, s.width);
+    memcpy(at, at - s.width, s.width);
+    for (int options = 0; options <= 3; options += 3) {
+        set_head(4, options, entry, 0, 80, 1, 0);
+        write_seed(f.len);
+        set_head(4, options, entry, 1, 80, 1, 0);
+        write_seed(f.len);
+        set_head(6, options, entry - 1, 0, 80, 1, 0);
+        write_seed(f.len);
+        set_head(6, options, entry, 255, 80, 1, 0); /* one below the end of the second */
+        write_seed(f.len);
+    }
+    memcpy(at, kept, s.width);
+}
+
 int main(int n, char **words)
 {
     if (n < 3) {
@@ -73,6 +93,8 @@ int main(int n, char **words)
                 set_head(6, 1, i, 0, 80, 1, 0);
                 write_seed(len);
             }
+            if (len < 4000 && i > 0)
+                twin_seeds(f, s, i);
             block_seeds(f, s, i);
         }
         set_head(0, 0, 0, 0, 0, 1, s.base);

@@ -1,5 +1,6 @@
 // Writes the vectors of header, tables, entry search and items, with the answers of the unchanged Rust: vectors.sh runs
-// it. Tables that don't strictly rise lie outside the domain; RULES answers there, under a remark that says so.
+// it. Tables that don't strictly rise lie outside the domain; RULES answers there, under a remark that says so. Where
+// the table never falls, and doesn't begin with equal entries or has the address among its own, the Rust is asked too.
 use oracle::gsym::facade;
 use std::fmt::Write as _;
 
@@ -144,10 +145,31 @@ fn shape(width: u8, base: u64, entries: &[u64]) -> Shape {
     }
 }
 
-// The entries that fit the words of RULES: not above, and the last or the next one above; none if the first is above.
-fn fitting(entries: &[u64], wanted: u64) -> Vec<usize> {
-    let fits = |i: usize| entries[i] <= wanted && (i + 1 == entries.len() || wanted < entries[i + 1]);
-    (0..entries.len()).filter(|&i| entries[0] <= wanted && fits(i)).collect()
+// The entries that RULES allows: not above what is wanted; the entry before it, if there is one, differs from it; the
+// next one that differs from it, if there is one, is above.
+fn allowed(entries: &[u64], wanted: u64) -> Vec<usize> {
+    let is_allowed = |i: usize| {
+        let next = entries[i..].iter().find(|e| **e != entries[i]);
+        let above = next.map_or(true, |e| wanted < *e);
+        entries[i] <= wanted && (i == 0 || entries[i - 1] != entries[i]) && above
+    };
+    (0..entries.len()).filter(|&i| is_allowed(i)).collect()
+}
+
+// Where several are allowed: the search by halving that `find_in` defines, and then over equal entries to the front.
+fn searched(entries: &[u64], wanted: u64) -> usize {
+    let (mut at, mut len) = (0, entries.len());
+    while len > 1 {
+        let half = len / 2;
+        if entries[at + half] <= wanted {
+            at += half;
+        }
+        len -= half;
+    }
+    while at > 0 && entries[at - 1] == entries[at] {
+        at -= 1;
+    }
+    at
 }
 
 // A file of tables alone.
@@ -155,32 +177,120 @@ fn tables(width: u8, base: u64, entries: &[u64]) -> Vec<u8> {
     write(&Shape { data: vec![], files: vec![], strings: vec![], ..shape(width, base, entries) })
 }
 
+// A table, and what is wanted of it: an address less the base.
+type Asked = (u8, u64, Vec<u64>, u64);
+
+// The answer of RULES, in the words of which one entry is allowed. Where the Rust searches alike it must have it, too.
+fn ruled(o: &mut Out, (width, base, entries, wanted): &Asked) {
+    let file = tables(*width, *base, entries);
+    let addr = base + wanted;
+    let chosen = if entries[0] <= *wanted { allowed(entries, *wanted) } else { vec![] };
+    assert_eq!(chosen.len(), usize::from(entries[0] <= *wanted), "{entries:x?} at {wanted:x}");
+    let answer = chosen.first().map(|&i| (i, base + entries[i]));
+    if as_the_rust(entries, *wanted) {
+        assert_eq!(aligned(&file, |f| facade::entry(f, addr)), answer, "{entries:x?} at {wanted:x}");
+    }
+    match answer {
+        Some((i, symbol)) => o.case('I', &file, addr, 0, 'v', [i as u64, symbol, 0]),
+        None => o.case('I', &file, addr, 0, '-', [0; 3]),
+    }
+}
+
+// Whether the Rust has the answer of RULES in a table that doesn't strictly rise.
+fn as_the_rust(entries: &[u64], wanted: u64) -> bool {
+    let falls = entries.windows(2).any(|w| w[1] < w[0]);
+    !falls && (entries[0] != entries[1] || entries[0] > wanted || entries.contains(&wanted))
+}
+
+// Runs of one to four, at entry 0 and behind another, with and without one behind them, in each width: below them, at
+// their address, one past it, in between, at the next entry and past that.
+fn runs(o: &mut Out) {
+    let mut asked: Vec<Asked> = vec![];
+    for width in [1u8, 2, 4, 8] {
+        let unit = 1u64 << (8 * (width - 1));
+        for len in 1..=4 {
+            for before in [&[][..], &[3]] {
+                for behind in [&[][..], &[9]] {
+                    let entries = [before, &vec![5; len], behind].concat();
+                    let entries: Vec<u64> = entries.iter().map(|e| e * unit).collect();
+                    let wanted = [5 * unit - 1, 5 * unit, 5 * unit + 1, 9 * unit - 1, 9 * unit, 12 * unit];
+                    let base = if width == 8 { 0x10 } else { 0x4000 };
+                    asked.extend(wanted.map(|w| (width, base, entries.clone(), w)));
+                }
+            }
+        }
+    }
+    let mut more = |entries: &[u64], wanted: &[u64]| {
+        asked.extend(wanted.iter().map(|w| (1, 0, entries.to_vec(), *w)));
+    };
+    more(&[5, 5, 5, 9, 9], &[4, 5, 6, 8, 9, 10, 20]);
+    more(&[0, 0], &[0, 1, u64::MAX]);
+    more(&[5, 5], &[5, 7]);
+    more(&[1, 5, 5, 9, 9, 9, 200, 200], &[0, 1, 4, 5, 8, 9, 199, 200, 201]);
+    more(&[0, 0, 0, 1, 2, 2, 2, 2, 3, 3], &[0, 1, 2, 3, 4]);
+    more(&[vec![7; 40], vec![9]].concat(), &[6, 7, 8, 9]);
+    more(&[vec![1], vec![7; 40]].concat(), &[6, 7, 8, 9]);
+    more(&[255, 255, 255], &[254, 255, 256]);
+    asked.retain(|(_, _, entries, _)| entries.len() > 1);
+    let (alike, apart): (Vec<Asked>, Vec<Asked>) = asked.into_iter().partition(|(_, _, e, w)| as_the_rust(e, *w));
+    o.remark("runs of equal entries, of which the first is chosen, by RULES and by the unchanged Rust alike");
+    alike.iter().for_each(|a| ruled(o, a));
+    o.remark("outside the domain, answered by RULES: tables that begin with a run, not at its address: the first, too");
+    apart.iter().for_each(|a| ruled(o, a));
+}
+
 fn falling_tables(o: &mut Out) {
     let top = u64::MAX;
-    o.remark("outside the domain, answered by RULES: falling tables where one entry alone fits");
-    for (width, base, entries, addr) in [
+    o.remark("outside the domain, answered by RULES: a falling table whose first entry is above");
+    for wanted in [0, 1, 5, 8] {
+        ruled(o, &(1, 0, vec![9, 5, 1], wanted));
+    }
+    for wanted in [3, 4] {
+        ruled(o, &(1, 0, vec![5, 5, 3, 5, 5], wanted));
+    }
+    o.remark("outside the domain, answered by RULES: falling tables where one entry alone is allowed");
+    for asked in [
         (1, 0, vec![1, 9, 5], 9),
         (1, 0, vec![9, 5, 1], 9),
-        (1, 0x4000, vec![7, 7, 2, 2, 7], 0x4007),
+        (1, 0x4000, vec![7, 7, 2, 2, 7], 7),
+        (1, 0, vec![5, 5, 3, 5, 5], 5),
+        (1, 0, vec![5, 5, 3, 5, 5], 7),
+        (1, 0, vec![5, 5, 3, 3], 5),
+        (1, 0, vec![5, 3, 5], 6),
+        (1, 0, vec![5, 3, 3], 6),
         (1, 0, vec![3, 3, 9, 9, 4, 4], 9),
         (1, 0, vec![3, 3, 9, 9, 4, 4], 3),
+        (1, 0, vec![0, 9, 9, 9, 2, 2, 2], 9),
+        (1, 0, vec![0, 9, 9, 9, 2, 2, 2], 1),
         (2, 0, vec![0x100, 0x300, 0x200], 0x1ff),
-        (2, 7, vec![2, 8, 8, 5, 9], 15),
-        (4, top - 0x20, vec![0, 0x20, 0x10], top),
+        (2, 7, vec![2, 8, 8, 5, 9], 8),
+        (2, 7, vec![2, 8, 8, 5, 5, 9, 9], 8),
+        (4, top - 0x20, vec![0, 0x20, 0x10], 0x20),
         (4, 0, vec![5, 0x1_0000, 0x2_0000, 0x8000], 0x7fff),
         (4, 0, vec![0xffff_ffff, 0, 0xffff_ffff, 5], 1 << 32),
+        (4, 0, vec![0xffff_ffff, 0xffff_ffff, 0, 0, 0xffff_ffff, 0xffff_ffff], 1 << 32),
         (8, 0, vec![0, 1 << 40, 1 << 20, 1 << 41], 1 << 40),
         (8, 0, vec![1, top, 0], top),
+        (8, 0, vec![1, 1, top, top, 0, 0], top),
     ] {
-        let fits = fitting(&entries, addr - base);
-        assert_eq!(fits.len(), 1, "{entries:x?} at {addr:x}");
-        o.case('I', &tables(width, base, &entries), addr, 0, 'v', [fits[0] as u64, base + entries[fits[0]], 0]);
+        ruled(o, &asked);
     }
-    o.remark("outside the domain, several entries fit: the one that this reader's own search by halving settles");
-    for (entries, addr, i) in [(vec![1, 9, 5], 6, 0), (vec![1, 9, 5, 8], 8, 3), (vec![0, 6, 2, 8, 3], 5, 2)] {
-        let fits = fitting(&entries, addr);
-        assert!(fits.len() > 1 && fits.contains(&i), "{entries:x?} at {addr:x}");
-        o.case('I', &tables(2, 0, &entries), addr, 0, 'v', [i as u64, entries[i], 0]);
+    o.remark("outside the domain, several entries are allowed: the one that this reader's own search settles");
+    for (entries, wanted, i) in [
+        (vec![1, 9, 5], 6, 0),
+        (vec![1, 9, 5, 8], 8, 3),
+        (vec![0, 6, 2, 8, 3], 5, 2),
+        (vec![1, 1, 9, 5, 5], 6, 0),
+        (vec![1, 1, 1, 9, 5, 5, 5], 6, 0),
+        (vec![1, 5, 5, 9, 5, 5], 6, 1),
+        (vec![2, 8, 4, 4, 4, 9], 5, 2),
+        (vec![2, 2, 8, 8, 4, 4, 4, 9, 3, 3], 5, 4),
+        (vec![4, 4, 4, 4, 9, 2, 2], 4, 5),
+        (vec![0, 3, 1, 1, 1, 1, 3, 0], 2, 2),
+    ] {
+        let many = allowed(&entries, wanted);
+        assert!(many.len() > 1 && many.contains(&i) && searched(&entries, wanted) == i, "{entries:x?} at {wanted:x}");
+        o.case('I', &tables(2, 0, &entries), wanted, 0, 'v', [i as u64, entries[i], 0]);
     }
 }
 
@@ -291,17 +401,7 @@ fn main() {
             o.item(&file, 0, nth);
         }
     }
-    o.remark("outside the domain, answered by RULES: runs of equal entries, where the last is chosen");
-    let equal = write(&shape(1, 0, &[5, 5, 5, 9, 9]));
-    for (addr, i, at) in [(5, 2, 5), (8, 2, 5), (9, 4, 9), (20, 4, 9)] {
-        o.case('I', &equal, addr, 0, 'v', [i, at, 0]);
-    }
-    o.case('I', &equal, 4, 0, '-', [0; 3]);
-    o.remark("outside the domain, answered by RULES: a falling table whose first entry is above");
-    let falling = write(&shape(1, 0, &[9, 5, 1]));
-    for addr in [0, 1, 5, 8] {
-        o.case('I', &falling, addr, 0, '-', [0; 3]);
-    }
+    runs(&mut o);
     falling_tables(&mut o);
     print!("{}", o.0);
 }

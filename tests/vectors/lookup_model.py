@@ -181,16 +181,25 @@ class Opened:
             at = stop
 
 
+def allowed(entries, wanted):
+    """The entries that may be chosen: not above what is wanted; the entry before it, if there is one, differs from it;
+    the next one that differs from it, if there is one, is above."""
+    firsts = [i for i, entry in enumerate(entries) if i == 0 or entries[i - 1] != entry]
+    # of two of these in a row the second is the next entry that differs from the first
+    above = [wanted < entries[i] for i in firsts[1:]] + [True]
+    return [i for i, is_above in zip(firsts, above) if entries[i] <= wanted and is_above]
+
+
 def lookup(file, addr, opts, room):
     f = Opened(file)
     need(addr >= f.base and f.width in (1, 2, 4, 8) and f.count, 1)
     entries = [f.entry(i) for i in range(f.count)]
     wanted = addr - f.base
     need(entries[0] <= wanted, 1)
-    fits = [i for i in range(f.count) if entries[i] <= wanted and (i + 1 == f.count or wanted < entries[i + 1])]
-    assert len(fits) == 1, "several entries fit"
-    symbol = f.base + entries[fits[0]]
-    size, name, at = f.info(fits[0])
+    chosen = allowed(entries, wanted)
+    assert len(chosen) == 1, "several entries are allowed"
+    symbol = f.base + entries[chosen[0]]
+    size, name, at = f.info(chosen[0])
     need(size == 0 or addr - symbol < size, 1)
     name = f.text(name, 6, True)
     bare = [symbol, size, *name] + [0] * 7, []
@@ -235,7 +244,7 @@ def check(file):
 
 
 def check_entry(f, i):
-    need(i == 0 or f.entry(i - 1) < f.entry(i), 21)
+    need(i == 0 or f.entry(i) >= f.entry(i - 1), 21)
     symbol = f.base + f.entry(i)
     size, name, at = f.info(i)
     need(symbol + size < 2**64, 22)

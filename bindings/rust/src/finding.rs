@@ -5,8 +5,8 @@ use core::fmt;
 #[non_exhaustive]
 #[derive(Clone, Copy, Debug, PartialEq, Eq, Hash, PartialOrd, Ord)]
 pub enum Fault {
-    /// The address table doesn't rise here.
-    NotRising,
+    /// The address table falls here.
+    FallingTable,
     /// The symbol ends above 2^64-1.
     SumTooLarge,
     /// A line program is stopped.
@@ -21,7 +21,7 @@ impl Fault {
     /// The fault of a number, if this crate has a name for it.
     fn of(number: u32) -> Option<Fault> {
         match (number, Refusal::of(number)?) {
-            (21, _) => Some(Fault::NotRising),
+            (21, _) => Some(Fault::FallingTable),
             (22, _) => Some(Fault::SumTooLarge),
             (23, _) => Some(Fault::StoppedProgram),
             (24, _) => Some(Fault::OpenList),
@@ -33,7 +33,7 @@ impl Fault {
     /// Its number.
     pub fn number(self) -> u32 {
         match self {
-            Fault::NotRising => 21,
+            Fault::FallingTable => 21,
             Fault::SumTooLarge => 22,
             Fault::StoppedProgram => 23,
             Fault::OpenList => 24,
@@ -44,7 +44,7 @@ impl Fault {
     /// It in words, as its `Display` and the page of the C face have it.
     pub fn text(self) -> &'static str {
         match self {
-            Fault::NotRising => "the address table doesn't rise here",
+            Fault::FallingTable => "the address table falls here",
             Fault::SumTooLarge => "the symbol ends above 2^64-1",
             Fault::StoppedProgram => "a line program is stopped",
             Fault::OpenList => "the address data list doesn't end in type 0",

@@ -189,6 +189,9 @@ impl Answer {
 /// Records of inlined calls go to the front of `frames`, the outermost first; room is the smaller of 64 and its length,
 /// and counts all frames of the symbol's inline block, one more than there will be records. A refusal changes none, nor
 /// does a lookup without inlining, and what is past the count stays.
+///
+/// Where several symbols stand at one address, the first of them in the file answers, at that address and past it, and
+/// it alone: where it doesn't cover the address, that is unknown, even if a later one would.
 #[inline]
 pub fn lookup(file: &[u8], addr: u64, options: Options, frames: &mut [Frame]) -> Result<Answer, Refusal> {
     let bits = u32::from(options.code_info) | u32::from(options.inlining) << 1;
@@ -233,12 +236,12 @@ pub fn block_frames(block: &[u8], symbol: u64, addr: u64, frames: &mut [InlineFr
 
 /// Checks a whole file, before it is shipped: `Ok` where it passes, else what is found first.
 ///
-/// It passes exactly if it opens, its offset size is 1, 2, 4 or 8, its address table strictly rises, no symbol ends
+/// It passes exactly if it opens, its offset size is 1, 2, 4 or 8, its address table never falls, no symbol ends
 /// above 2^64-1, and of each entry the information and the name read, the address data list ends in type 0, and each
 /// line table and each inline tree in it reads in full. In a file that passes a lookup with [`Options::NAME`] is
 /// answered at any address, or refused with [`Refusal::UnknownAddress`].
 ///
-/// A kernel's file of 20 MiB took 44 milliseconds. But entries may share a name or a list, and it is read for each: in
+/// A kernel's file of 20 MiB took 40 milliseconds. But entries may share a name or a list, and it is read for each: in
 /// a file that was made to be slow the time grows with the number of entries times the file's length.
 ///
 /// ```

@@ -164,7 +164,8 @@ fn a_check_of_the_entries() {
     let base = u64::MAX - 0x1d0 - 32;
     let (last, above) = (base.to_le_bytes(), (base + 1).to_le_bytes());
     assert_eq!(check(&sample()), refused(4, Refusal::UnreadName));
-    assert_eq!(found(&[(50, &[0, 0])]), entry(1, Fault::NotRising));
+    assert_eq!(found(&[(50, &[0, 0])]), Ok(()));
+    assert_eq!(found(&[(48, &[0xff, 0])]), entry(1, Fault::FallingTable));
     assert_eq!(found(&[(72, &[0xff; 4])]), refused(3, Refusal::UnreadInfo));
     assert_eq!(found(&[(8, &last)]), Ok(()));
     assert_eq!(found(&[(8, &above)]), entry(4, Fault::SumTooLarge));

@@ -20,7 +20,8 @@ use gsym_types::{Address, Answer, Frame, MAX_FRAMES, Options, Refusal};
 /// symbol its name, becomes a record, written over the first ones of `frames`. There is room for as many frames as the
 /// list has places, and for 64 at most; they count the one that becomes no record. Records past the count stay as they
 /// are. Refused with the condition of RULES ("Refusal numbers") that is met first, 1 to 14; a refusal changes no
-/// record. Without both options the list isn't touched (RULES, "Calls").
+/// record. Without both options the list isn't touched (RULES, "Calls"). Of several symbols at one address the first in
+/// the file answers, at that address and past it, and it alone (RULES, "Finding the entry").
 pub fn lookup(
     file: &[u8],
     addr: Address,

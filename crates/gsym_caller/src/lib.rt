@@ -170,8 +170,8 @@ pub fn names_len(gsym: &Gsym<'_>, answer: &Answer, frames: &[Frame]) -> u64
     gsym.calls(answer, frames).fold(0, |len: u64, call| len.saturating_add(call.name.len as u64))
 }
 
-/// The symbol of an address in a file that passes the check, which is checked first: `None` where no symbol covers the
-/// address. That a lookup refuses with another number can't be.
+/// The symbol of an address in a file that passes the check, which is checked first: `None` where the address is
+/// unknown (1). That a lookup refuses with another number can't be.
 pub fn checked_symbol(file: &[u8], addr: Address) -> Result<Option<Answer>, Finding>
     ensures faulty { (found : Finding) → IsErrOf result found ↔ IsFirstFault file.now found }
     ensures none { IfOk result (λ answer. IsNone answer

@@ -1,29 +1,23 @@
 -- What `find_addr` ensures, of the index that the search gives and the entry beside it.
 -- Assumes nothing.
-use Rattle.std.proofs.Common.{Option, Some, None, ◌≡◌, ◌∙◌, ℕ, ◌+◌, ◌-◌, ◌^◌, ◌<◌, ◌≤◌, get_or, subst, sym, refl, ap}
+use Rattle.std.proofs.Common.{Option, Some, None, ◌≡◌, ◌∙◌, ℕ, ◌+◌, ◌-◌, ◌^◌, ◌<◌, ◌≤◌, get_or, sym, refl, ap}
 use Rattle.std.proofs.Common.{arith}
 use Rattle.std.specs.List.Sorted.{IsNonDecreasing}
 use Rattle.gsym_types.specs.declared.Address.{Address}
 use Rattle.gsym_parser.specs.View.{View}
-use Rattle.gsym_parser.specs.Search.{entries_of, find_of, with_entry, land_of, addresses_of, Right, Chosen}
-use Rattle.gsym_parser.specs.Search.{LastNotAbove, Nowhere}
+use Rattle.gsym_parser.specs.Search.{entries_of, find_of, with_entry, land_of, addresses_of, Allowed}
+use Rattle.gsym_parser.specs.Search.{FirstOfGreatest, Nowhere}
 use Rattle.gsym_parser.specs.Entries.{symbol_at}
-use Rattle.gsym_parser.proofs.Choice.{chosen, chosen_last, chosen-unique}
+use Rattle.gsym_parser.proofs.Choice.{allowed-first, allowed-found}
 use Rattle.gsym_parser.proofs.Lands.{find-address}
-use Rattle.gsym_parser.proofs.Symbols.{find-in-table, find-base, find-chosen, symbol-is, find-unknown, unknown-find}
+use Rattle.gsym_parser.proofs.Symbols.{find-in-table, find-base, find_of-allowed, symbol-is, find-unknown, unknown-find}
 
 module _ (v : View) (addr : Address) where
-  -- the choice, whatever it is
-  pub found_right : v.tables.base.0 ≤ addr.0 → Right (entries_of v) (addr.0 - v.tables.base.0) (find_of v addr)
-  found_right le =
-      subst (Right (entries_of v) (addr.0 - v.tables.base.0)) (sym (find-in-table v addr le))
-      (chosen (entries_of v) (addr.0 - v.tables.base.0))
-
   pub found_only :
       IsNonDecreasing (entries_of v) → v.tables.base.0 ≤ addr.0 → (i : ℕ) →
-      Chosen (entries_of v) (addr.0 - v.tables.base.0) i → find_of v addr ≡ Some i
+      Allowed (entries_of v) (addr.0 - v.tables.base.0) i → find_of v addr ≡ Some i
   found_only up le i h =
-      find-in-table v addr le ∙ chosen-unique (entries_of v) (addr.0 - v.tables.base.0) up i h
+      find-in-table v addr le ∙ allowed-found (entries_of v) (addr.0 - v.tables.base.0) up i h
 
   none-is : (o : Option ℕ) → None ≡ with_entry (entries_of v) o → o ≡ None
   none-is None e = refl
@@ -44,12 +38,9 @@ module _ (v : View) (addr : Address) where
     pub search_none : None ≡ find_of v addr
     search_none = sym (none-is (find_of v addr) e)
 
-    pub none_right : v.tables.base.0 ≤ addr.0 → Right (entries_of v) (addr.0 - v.tables.base.0) None
-    none_right le = subst (Right (entries_of v) (addr.0 - v.tables.base.0)) (sym search_none) (found_right le)
-
     pub none_only :
         IsNonDecreasing (entries_of v) → v.tables.base.0 ≤ addr.0 → (i : ℕ) →
-        Chosen (entries_of v) (addr.0 - v.tables.base.0) i → None ≡ Some i
+        Allowed (entries_of v) (addr.0 - v.tables.base.0) i → None ≡ Some i
     none_only up le i h = search_none ∙ found_only up le i h
 
     pub none_lands : IsNonDecreasing (entries_of v) → None ≡ land_of (addresses_of v) addr.0
@@ -63,12 +54,12 @@ module _ (v : View) (addr : Address) where
     pub search_some : Some i ≡ find_of v addr
     search_some = sym (some-is (find_of v addr) i n e).0
 
-    pub some_right : v.tables.base.0 ≤ addr.0 → Right (entries_of v) (addr.0 - v.tables.base.0) (Some i)
-    some_right le = subst (Right (entries_of v) (addr.0 - v.tables.base.0)) (sym search_some) (found_right le)
+    pub search_allowed : Allowed (entries_of v) (addr.0 - v.tables.base.0) i
+    search_allowed = find_of-allowed v addr i (sym search_some)
 
     pub some_only :
         IsNonDecreasing (entries_of v) → v.tables.base.0 ≤ addr.0 → (j : ℕ) →
-        Chosen (entries_of v) (addr.0 - v.tables.base.0) j → Some i ≡ Some j
+        Allowed (entries_of v) (addr.0 - v.tables.base.0) j → Some i ≡ Some j
     some_only up le j h = search_some ∙ found_only up le j h
 
     pub some_lands : IsNonDecreasing (entries_of v) → Some i ≡ land_of (addresses_of v) addr.0
@@ -86,12 +77,11 @@ module _ (v : View) (addr : Address) where
           arith,
           search_entry,
           find-base v addr i (sym search_some),
-          (find-chosen v addr i (sym search_some)).not_above,
+          search_allowed.not_above,
         )
 
-    pub search_last : IsNonDecreasing (entries_of v) → LastNotAbove (entries_of v) (addr.0 - v.tables.base.0) i
-    search_last up =
-        chosen_last (entries_of v) (addr.0 - v.tables.base.0) up i (find-chosen v addr i (sym search_some))
+    pub search_first : IsNonDecreasing (entries_of v) → FirstOfGreatest (entries_of v) (addr.0 - v.tables.base.0) i
+    search_first up = allowed-first (entries_of v) (addr.0 - v.tables.base.0) up i search_allowed
 
     pub search_symbol : addr.0 < 2 ^ 64 → record { 0 = v.tables.base.0 + n } ≡ symbol_at v i
     search_symbol h =

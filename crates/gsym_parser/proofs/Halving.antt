@@ -1,9 +1,10 @@
 -- The halving search one turn at a time, with nothing said of how many turns there are; and each way out of the code.
 -- Assumes nothing.
 use Rattle.std.proofs.Common.{Some, None, ◌≡◌, ℕ, zero, suc, ◌+◌, ◌-◌, ◌/◌, ◌<◌, ◌≤◌, leb, List, length, get_or, refl}
-use Rattle.std.proofs.Common.{ap, ⊎_elim, arith, le-ltb, lt-ltb, eq-eqb, ne_eqb, le-leb, if◌then◌else◌, cond}
+use Rattle.std.proofs.Common.{Bool, true, false, sym, ◌∙◌, ap, ⊎_elim}
+use Rattle.std.proofs.Common.{arith, le-ltb, lt-ltb, eq-eqb, ne_eqb, le-leb, if◌then◌else◌, cond}
 use Rattle.std.proofs.lemmas.Bool.{cases_lt, lt-leb}
-use Rattle.gsym_parser.specs.Search.{halving, chosen_from, find_in}
+use Rattle.gsym_parser.specs.Search.{halving, halved_from, run_start, find_in}
 
 -- the index after a turn
 abbrev pub moved : List ℕ → ℕ → ℕ → ℕ → ℕ
@@ -23,19 +24,36 @@ module _ (table : List ℕ) (wanted : ℕ) where
       (λ (l : len ≤ 1). rw (le-leb _ _ l))
       (cases_lt 1 len)
 
-  pub chosen-from-end : (lo len : ℕ) → len ≤ 1 → chosen_from table wanted lo len ≡ lo
-  unfolding chosen_from halving
-  chosen-from-end lo zero h = refl
-  chosen-from-end lo (suc len) h = rw (le-leb _ _ h)
+  pub halved-from-end : (lo len : ℕ) → len ≤ 1 → halved_from table wanted lo len ≡ lo
+  unfolding halved_from halving
+  halved-from-end lo zero h = refl
+  halved-from-end lo (suc len) h = rw (le-leb _ _ h)
 
-  pub chosen-from-turn : (lo len : ℕ) → 1 < len
-      → chosen_from table wanted lo len ≡ chosen_from table wanted (moved table wanted lo (len / 2)) (len - len / 2)
-  unfolding chosen_from halving
-  chosen-from-turn lo zero h = absurd (omega arith)
-  chosen-from-turn lo (suc len) h =
+  turn-among : (lo len : ℕ) → 1 < len
+      → halved_from table wanted lo len ≡ halved_from table wanted (moved table wanted lo (len / 2)) (len - len / 2)
+  unfolding halved_from halving
+  turn-among lo zero h = absurd (omega arith)
+  turn-among lo (suc len) h =
       rw (lt-leb _ _ h)
       (enough len (suc len - suc len / 2) (moved table wanted lo (suc len / 2)) (suc len - suc len / 2) (omega arith)
       (omega arith))
+
+  -- where no more than one entry is left a turn changes nothing
+  stays_at : (lo half : ℕ) (b : Bool) → half ≡ 0 → (if b then lo + half else lo) ≡ lo
+  stays_at lo half true z = omega arith
+  stays_at lo half false z = refl
+
+  pub halved-from-turn : (lo len : ℕ)
+      → halved_from table wanted lo len ≡ halved_from table wanted (moved table wanted lo (len / 2)) (len - len / 2)
+  halved-from-turn lo len =
+      ⊎_elim
+      (λ (l : 1 < len). turn-among lo len l)
+      (λ (l : len ≤ 1).
+      halved-from-end lo len l
+      ∙ sym
+      (halved-from-end (moved table wanted lo (len / 2)) (len - len / 2) (omega arith)
+      ∙ stays_at lo (len / 2) (leb (get_or table (lo + len / 2) 0) wanted) (omega arith)))
+      (cases_lt 1 len)
 
   -- the ways out
   pub find-empty : length table ≡ 0 → None ≡ find_in table wanted
@@ -47,6 +65,6 @@ module _ (table : List ℕ) (wanted : ℕ) where
   find-above n h = rw (ne_eqb _ _ n, lt-ltb _ _ h)
 
   pub find_at : (i : ℕ) → (length table ≡ 0 → ⊥) → get_or table 0 0 ≤ wanted
-      → chosen_from table wanted 0 (length table) ≡ i → Some i ≡ find_in table wanted
+      → run_start table (halved_from table wanted 0 (length table)) ≡ i → Some i ≡ find_in table wanted
   unfolding find_in
   find_at i n h e = rw (ne_eqb _ _ n, le-ltb _ _ h, e)

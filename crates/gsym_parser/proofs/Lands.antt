@@ -1,107 +1,152 @@
--- A table that never falls: the search comes to the last entry that isn't above, counted along the table, and so does
--- the search for an address among the entries' addresses, whatever the base and the offset size.
+-- A table that never falls: the search comes to the first of the greatest entries that aren't above, counted along the
+-- table, and so does the search for an address among the entries' addresses, whatever the base and the offset size.
 -- Assumes nothing.
-use Rattle.std.proofs.Common.{Option, Some, None, ◌≡◌, ℕ, zero, suc, ◌+◌, ◌-◌, ◌<◌, ◌≤◌, leb, List, [], ◌∷◌, map}
-use Rattle.std.proofs.Common.{length, get_or, sym, refl, ap, ◌∙◌, inl, inr, ⊎_elim, arith, le-ltb, lt-ltb, le-leb}
-use Rattle.std.proofs.Common.{if◌then◌else◌}
+use Rattle.std.proofs.Common.{Option, Some, None, ◌≡◌, ℕ, zero, suc, ◌+◌, ◌-◌, ◌<◌, ◌≤◌, Bool, true, false}
+use Rattle.std.proofs.Common.{List, [], ◌∷◌, map, length, get_or, sym, refl, ap, ◌∙◌, inl, inr, ⊎_elim, arith, le-ltb}
+use Rattle.std.proofs.Common.{lt-ltb, le-leb, if◌then◌else◌}
 use lib.ListN.{length-map}
+use Rattle.std.specs.Prelude.{option_map}
 use Rattle.std.specs.List.Sorted.{IsNonDecreasing}
 use Rattle.std.proofs.lemmas.Bool.{cases_lt, lt-leb}
 use Rattle.gsym_types.specs.declared.Address.{Address}
 use Rattle.gsym_parser.specs.View.{View}
-use Rattle.gsym_parser.specs.Search.{find_in, entries_of, find_of, land_from, land_of, addresses_of}
-use Rattle.gsym_parser.specs.Search.{Right, LastNotAbove}
-use Rattle.gsym_parser.proofs.Choice.{chosen, chosen_last}
+use Rattle.gsym_parser.specs.Search.{find_in, entries_of, find_of, is_better, land_from, land_of, addresses_of}
+use Rattle.gsym_parser.specs.Search.{FirstOfGreatest}
+use Rattle.gsym_parser.proofs.Choice.{Right, find-right, allowed-first}
 
 -- every entry is above
 abbrev pub AllAbove : List ℕ → ℕ → Type 0
 AllAbove table wanted = (j : ℕ) → j < length table → wanted < get_or table j 0
 
-module _ (wanted : ℕ) where
-  from-none : (k : ℕ) (table : List ℕ) (best : Option ℕ) → AllAbove table wanted → land_from k table wanted best ≡ best
-  unfolding land_from
-  from-none k [] best a = refl
-  from-none k (e ∷ es) best a =
-      rw (lt-leb _ _ (a 0 (omega arith))) (from-none (k + 1) es best (λ j l. a (suc j) (omega arith)))
+-- the best so far is less than an entry, if there is one
+abbrev IsLess : Option (ℕ × ℕ) → ℕ → Type 0
+IsLess None e = Unit {0}
+IsLess (Some best) e = best.1 < e
 
-  from_last :
-      (k : ℕ) (table : List ℕ) (best : Option ℕ) (i : ℕ) → i < length table → get_or table i 0 ≤ wanted →
-      ((j : ℕ) → i < j → j < length table → wanted < get_or table j 0) → land_from k table wanted best ≡ Some (k + i)
+is-better : (best : Option (ℕ × ℕ)) (e : ℕ) → IsLess best e → is_better best e ≡ true
+is-better None e l = refl
+is-better (Some best) e l = lt-ltb _ _ l
+
+module _ (wanted : ℕ) where
+  -- the best stays where each entry is above or no greater
+  stays :
+      (k : ℕ) (table : List ℕ) (i best : ℕ) →
+      ((j : ℕ) → j < length table → get_or table j 0 ≤ wanted → get_or table j 0 ≤ best) →
+      land_from k table wanted (Some (i, best)) ≡ Some (i, best)
   unfolding land_from
-  from_last k [] best i h n a = absurd (omega arith)
-  from_last k (e ∷ es) best zero h n a =
+  stays k [] i best a = refl
+  stays k (e ∷ es) i best a =
+      let rest = stays (k + 1) es i best (λ j l. a (suc j) (omega arith)) in
+      ⊎_elim
+      (λ (m : wanted < e). rw (lt-leb _ _ m) rest)
+      (λ (m : e ≤ wanted). rw (le-leb _ _ m, le-ltb _ _ (a 0 (omega arith) m)) rest)
+      (cases_lt wanted e)
+
+  -- the best so far is less than entry i, which isn't above; then it is the best in the end, if none is greater and all
+  -- before it are less
+  comes :
+      (k : ℕ) (table : List ℕ) (best : Option (ℕ × ℕ)) (i : ℕ) → i < length table → get_or table i 0 ≤ wanted →
+      IsLess best (get_or table i 0) →
+      ((j : ℕ) → j < length table → get_or table j 0 ≤ wanted → get_or table j 0 ≤ get_or table i 0) →
+      ((j : ℕ) → j < i → get_or table j 0 < get_or table i 0) →
+      land_from k table wanted best ≡ Some (k + i, get_or table i 0)
+  unfolding land_from
+  comes k [] best i h n g a b = absurd (omega arith)
+  comes k (e ∷ es) best zero h n g a b =
       let q : k ≡ k + 0 = omega arith in
-      rw (le-leb _ _ n)
-      (from-none (k + 1) es (Some k) (λ j l. a (suc j) (omega arith) (omega arith)) ∙ ap Some q)
-  from_last k (e ∷ es) best (suc i) h n a =
+      rw (le-leb _ _ n, is-better best e g)
+      (stays (k + 1) es k e (λ j l. a (suc j) (omega arith)) ∙ ap (λ m. Some (m, e)) q)
+  comes k (e ∷ es) best (suc i) h n g a b =
       let q : k + 1 + i ≡ k + suc i = omega arith in
-      from_last (k + 1) es _ i (omega arith) n (λ j l m. a (suc j) (omega arith) (omega arith)) ∙ ap Some q
+      let rest : (x : Option (ℕ × ℕ)) → IsLess x (get_or es i 0) →
+      land_from (k + 1) es wanted x ≡ Some (k + suc i, get_or es i 0) =
+      λ x l.
+      comes (k + 1) es x i (omega arith) n l (λ j m. a (suc j) (omega arith)) (λ j m. b (suc j) (omega arith))
+      ∙ ap (λ m. Some (m, get_or es i 0)) q in
+      ⊎_elim
+      (λ (m : wanted < e). rw (lt-leb _ _ m) (rest best g))
+      (λ (m : e ≤ wanted). rw (le-leb _ _ m) (by (is_better best e) rest))
+      (cases_lt wanted e)
+    where
+      by :
+          (t : Bool) →
+          ((x : Option (ℕ × ℕ)) → IsLess x (get_or es i 0) →
+          land_from (k + 1) es wanted x ≡ Some (k + suc i, get_or es i 0)) →
+          land_from (k + 1) es wanted (if t then Some (k, e) else best) ≡ Some (k + suc i, get_or es i 0)
+      by true rest = rest (Some (k, e)) (b 0 (omega arith))
+      by false rest = rest best g
+
+  none-stays : (k : ℕ) (table : List ℕ) → AllAbove table wanted → land_from k table wanted None ≡ None
+  unfolding land_from
+  none-stays k [] a = refl
+  none-stays k (e ∷ es) a =
+      rw (lt-leb _ _ (a 0 (omega arith))) (none-stays (k + 1) es (λ j l. a (suc j) (omega arith)))
 
   pub land-none : (table : List ℕ) → AllAbove table wanted → land_of table wanted ≡ None
   unfolding land_of
-  land-none table a = from-none 0 table None a
+  land-none table a = ap (option_map (λ best. best.0)) (none-stays 0 table a)
 
-  pub land_last : (table : List ℕ) (i : ℕ) → LastNotAbove table wanted i → land_of table wanted ≡ Some i
+  pub land-first : (table : List ℕ) (i : ℕ) → FirstOfGreatest table wanted i → land_of table wanted ≡ Some i
   unfolding land_of
-  land_last table i h =
+  land-first table i h =
       let q : 0 + i ≡ i = omega arith in
-      from_last 0 table None i h.inside h.not_above h.above_after ∙ ap Some q
-
-  -- the search is that
-  pub find-lands : (table : List ℕ) → IsNonDecreasing table → find_in table wanted ≡ land_of table wanted
-  find-lands table up = go (find_in table wanted) (chosen table wanted)
-    where
-      go : (f : Option ℕ) → Right table wanted f → f ≡ land_of table wanted
-      go (Some i) r = sym (land_last table i (chosen_last table wanted up i r.1))
-      go None (inl e) = sym (land-none table (λ j l. absurd (omega arith)))
-      go None (inr g) =
-          sym (land-none table (λ j l. omega (arith, up 0 j 0 (omega arith) l)))
+      ap (option_map (λ best. best.0)) (comes 0 table None i h.inside h.not_above tt h.greatest h.less_before)
+      ∙ ap Some q
 
 -- the same of addresses
-module _ (base : ℕ) (table : List ℕ) where
+module _ (base : ℕ) (table : List ℕ) (addr : ℕ) where
+  abbrev addresses : List ℕ
+  addresses = map (λ e. base + e) table
+
   moved-entry : (j : ℕ) (es : List ℕ) → j < length es → get_or (map (λ e. base + e) es) j 0 ≡ base + get_or es j 0
   moved-entry j [] l = absurd (omega arith)
   moved-entry zero (e ∷ es) l = refl
   moved-entry (suc j) (e ∷ es) l = moved-entry j es (omega arith)
 
-  module _ (addr : ℕ) where
-    same_test : (e : ℕ) → base ≤ addr → leb (base + e) addr ≡ leb e (addr - base)
-    same_test e h =
-        ⊎_elim
-        (λ (l : addr < base + e).
-        let m : addr - base < e = omega arith in lt-leb _ _ l ∙ sym (lt-leb _ _ m))
-        (λ (l : base + e ≤ addr).
-        let m : e ≤ addr - base = omega arith in le-leb _ _ l ∙ sym (le-leb _ _ m))
-        (cases_lt addr (base + e))
+  moved-inside : (j : ℕ) → j < length addresses → j < length table
+  moved-inside j l = rw length-map at l
 
-    moved_none : addr < base → land_of (map (λ e. base + e) table) addr ≡ None
-    moved_none h =
-        land-none addr (map (λ e. base + e) table)
-        (λ j l. let m : j < length table = rw length-map at l in omega (arith, moved-entry j table m))
+  pub moved-none : ((j : ℕ) → j < length table → addr < base + get_or table j 0) → land_of addresses addr ≡ None
+  moved-none a =
+      land-none addr addresses
+      (λ j l. let m = moved-inside j l in omega (arith, moved-entry j table m, a j m))
 
-    -- at any step along the table the two agree
-    moved-from :
-        (k : ℕ) (es : List ℕ) (best : Option ℕ) → base ≤ addr →
-        land_from k (map (λ e. base + e) es) addr best ≡ land_from k es (addr - base) best
-    unfolding land_from
-    moved-from k [] best h = refl
-    moved-from k (e ∷ es) best h =
-        let q : leb (base + e) addr ≡ leb e (addr - base) = same_test e h in
-        ap (λ b. land_from (k + 1) (map (λ e. base + e) es) addr (if b then Some k else best)) q
-        ∙ moved-from (k + 1) es (if leb e (addr - base) then Some k else best) h
+  pub moved-first :
+      (i : ℕ) → base ≤ addr → FirstOfGreatest table (addr - base) i → land_of addresses addr ≡ Some i
+  moved-first i h f =
+      land-first addr addresses i (record {
+        inside = omega (arith, length-map table (λ (e : ℕ). base + e), f.inside);
+        not_above = omega (arith, here, f.not_above);
+        greatest = λ j l n.
+            let m = moved-inside j l in
+            let p = moved-entry j table m in
+            omega (arith, here, p, n, f.greatest j m (omega (arith, p, n)));
+        less_before = λ j l. omega (arith, here, moved-entry j table (omega (arith, f.inside)), f.less_before j l);
+      })
+    where
+      here : get_or addresses i 0 ≡ base + get_or table i 0
+      here = moved-entry i table f.inside
 
-    pub land-moved : base ≤ addr → land_of (map (λ e. base + e) table) addr ≡ land_of table (addr - base)
-    unfolding land_of
-    land-moved h = moved-from 0 table None h
+module _ (v : View) (addr : Address) (up : IsNonDecreasing (entries_of v)) where
+  lands :
+      v.tables.base.0 ≤ addr.0 → (f : Option ℕ) → Right (entries_of v) (addr.0 - v.tables.base.0) f →
+      f ≡ land_of (map (λ e. v.tables.base.0 + e) (entries_of v)) addr.0
+  lands h (Some i) r =
+      sym
+      (moved-first v.tables.base.0 (entries_of v) addr.0 i h
+      (allowed-first (entries_of v) (addr.0 - v.tables.base.0) up i r.1))
+  lands h None (inl e) = sym (moved-none v.tables.base.0 (entries_of v) addr.0 (λ j l. absurd (omega arith)))
+  lands h None (inr g) =
+      sym (moved-none v.tables.base.0 (entries_of v) addr.0 (λ j l. omega (arith, up 0 j 0 (omega arith) l)))
 
-module _ (v : View) (addr : Address) where
-  pub find-address : IsNonDecreasing (entries_of v) → find_of v addr ≡ land_of (addresses_of v) addr.0
+  pub find-address : find_of v addr ≡ land_of (addresses_of v) addr.0
   unfolding find_of addresses_of
-  find-address up =
+  find-address =
       ⊎_elim
-      (λ (l : addr.0 < v.tables.base.0). rw (lt-ltb _ _ l) (sym (moved_none v.tables.base.0 (entries_of v) addr.0 l)))
+      (λ (l : addr.0 < v.tables.base.0).
+      rw (lt-ltb _ _ l) (sym (moved-none v.tables.base.0 (entries_of v) addr.0 (λ j p. omega arith))))
       (λ (l : v.tables.base.0 ≤ addr.0).
       rw (le-ltb _ _ l)
-      (find-lands (addr.0 - v.tables.base.0) (entries_of v) up
-      ∙ sym (land-moved v.tables.base.0 (entries_of v) addr.0 l)))
+      (lands l (find_in (entries_of v) (addr.0 - v.tables.base.0))
+      (find-right (entries_of v) (addr.0 - v.tables.base.0))))
       (cases_lt addr.0 v.tables.base.0)

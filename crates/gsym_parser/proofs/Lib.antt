@@ -1,4 +1,5 @@
 mod Halving
+mod Runs
 mod Turns
 pub mod Inside
 pub mod Opened

@@ -5,12 +5,12 @@ use Rattle.std.proofs.Common.{◌∙◌, ⊎_elim, mod-eq_of_lt, arith, le-ltb, 
 use Rattle.std.proofs.lemmas.Bool.{cases_lt}
 use Rattle.gsym_types.specs.declared.Address.{Address}
 use Rattle.gsym_parser.specs.View.{View}
-use Rattle.gsym_parser.specs.Search.{is_width, entries_of, find_in, find_of, Chosen, Nowhere}
+use Rattle.gsym_parser.specs.Search.{is_width, entries_of, find_in, find_of, Allowed, Nowhere}
 use Rattle.gsym_parser.specs.Search.{below_base, other_size, no_entries, first_above}
 use Rattle.gsym_parser.specs.Entries.{symbol_at}
 use Rattle.gsym_parser.proofs.Table.{length-table, len-le, table_none, table-full}
 use Rattle.gsym_parser.proofs.Halving.{find-empty, find-above}
-use Rattle.gsym_parser.proofs.Choice.{found-chosen, unknown-why}
+use Rattle.gsym_parser.proofs.Choice.{found-allowed, unknown-why}
 
 module _ (v : View) (addr : Address) where
   -- above the base it is the search on the list of entries
@@ -31,21 +31,21 @@ module _ (v : View) (addr : Address) where
         (λ (l : v.tables.base.0 ≤ addr.0). l)
         (cases_lt addr.0 v.tables.base.0)
 
-    pub find-chosen : Chosen (entries_of v) (addr.0 - v.tables.base.0) i
-    find-chosen =
-        (found-chosen (entries_of v) (addr.0 - v.tables.base.0) i (sym (find-in-table find-base) ∙ e)).1
+    pub find_of-allowed : Allowed (entries_of v) (addr.0 - v.tables.base.0) i
+    find_of-allowed =
+        found-allowed (entries_of v) (addr.0 - v.tables.base.0) i (sym (find-in-table find-base) ∙ e)
 
     pub find-below-count : i < v.tables.count
     find-below-count =
-        omega (arith, find-chosen.inside, length-table v, len-le v.tables.offset_size v.tables.count)
+        omega (arith, find_of-allowed.inside, length-table v, len-le v.tables.offset_size v.tables.count)
 
     -- its symbol's address is the base plus the entry, and never exceeds the address
     pub symbol-is : addr.0 < 2 ^ 64 → (symbol_at v i).0 ≡ v.tables.base.0 + get_or (entries_of v) i 0
     unfolding symbol_at
-    symbol-is h = mod-eq_of_lt (omega (arith, find-base, find-chosen.not_above))
+    symbol-is h = mod-eq_of_lt (omega (arith, find-base, find_of-allowed.not_above))
 
     pub symbol-le : addr.0 < 2 ^ 64 → (symbol_at v i).0 ≤ addr.0
-    symbol-le h = omega (arith, symbol-is h, find-base, find-chosen.not_above)
+    symbol-le h = omega (arith, symbol-is h, find-base, find_of-allowed.not_above)
 
   -- unknown exactly in the cases of RULES
   no_table : length (entries_of v) ≡ 0 → Nowhere v addr

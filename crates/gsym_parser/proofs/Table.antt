@@ -42,6 +42,11 @@ pub entry_room : (size n i room : ℕ) → n * size ≤ room → i < n → i * s
 entry_room size n i room h l =
     let m : suc i * size ≤ n * size = mul-le-mul_right size l in omega (arith, add-mul i 1 size)
 
+-- and of an entry that is not behind one whose bytes are there
+pub room_before : (size last i room : ℕ) → last * size + size ≤ room → i ≤ last → i * size + size ≤ room
+room_before size last i room h l =
+    entry_room size (last + 1) i room (omega (arith, add-mul last 1 size)) (omega arith)
+
 -- its length and its entries
 pub length-entries : (size n : ℕ) (bytes : List ℕ) → length (entries size n bytes) ≡ n
 unfolding entries

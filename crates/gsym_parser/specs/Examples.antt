@@ -7,7 +7,7 @@ use Rattle.gsym_types.specs.declared.Address.{Address}
 use Rattle.gsym_types.specs.declared.Refusal.TheVariants.{TooFewBytes, WrongMagic, WrongVersion}
 use Rattle.gsym_parser.specs.View.{View}
 use Rattle.gsym_parser.specs.Header.{opened_of}
-use Rattle.gsym_parser.specs.Search.{entries_of, find_of}
+use Rattle.gsym_parser.specs.Search.{find_in, land_of, entries_of, find_of}
 use Rattle.gsym_parser.specs.Entries.{symbol_at, info_at, covered_by, file_at}
 use Rattle.gsym_parser.specs.Items.{items_of, closed_of}
 
@@ -89,6 +89,17 @@ pub record SmallFile : Type 0 where
   pub entries :
       map find (0xfff ∷ 0x1000 ∷ 0x100f ∷ 0x1010 ∷ 0x102f ∷ 0x1030 ∷ 0xffffffffffffffff ∷ [])
       ≡ None ∷ Some 0 ∷ Some 0 ∷ Some 1 ∷ Some 1 ∷ Some 2 ∷ Some 2 ∷ []
+  -- of equal entries in a row the first: below them, on them, past them; by the search and counted along the table
+  pub runs :
+      map (find_in (5 ∷ 5 ∷ 5 ∷ 9 ∷ 9 ∷ [])) (4 ∷ 5 ∷ 8 ∷ 9 ∷ 20 ∷ [])
+      ≡ None ∷ Some 0 ∷ Some 0 ∷ Some 3 ∷ Some 3 ∷ []
+  pub runs_counted :
+      map (land_of (5 ∷ 5 ∷ 5 ∷ 9 ∷ 9 ∷ [])) (4 ∷ 5 ∷ 8 ∷ 9 ∷ 20 ∷ [])
+      ≡ None ∷ Some 0 ∷ Some 0 ∷ Some 3 ∷ Some 3 ∷ []
+  -- in tables that fall: a run that another entry parts; a first entry that is above; where several are allowed
+  pub parted : map (find_in (5 ∷ 5 ∷ 3 ∷ 5 ∷ 5 ∷ [])) (4 ∷ 5 ∷ 7 ∷ []) ≡ None ∷ Some 3 ∷ Some 3 ∷ []
+  pub first_above : find_in (9 ∷ 5 ∷ []) 6 ≡ None
+  pub several : map (find_in (1 ∷ 1 ∷ 9 ∷ 5 ∷ [])) (6 ∷ 9 ∷ []) ≡ Some 0 ∷ Some 3 ∷ []
   pub symbol : symbol_at opened 1 ≡ record { 0 = 0x1010 }
   -- entries of 1, 4 and 8 bytes, and none of 3
   pub sizes :

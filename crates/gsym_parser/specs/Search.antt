@@ -3,10 +3,11 @@
 --   address table    count numbers of offset size bytes, one after another; the offset size is 1, 2, 4 or 8
 --
 -- The search is on a list of numbers; the file is in `entries_of` and `find_of` alone. `find_in` is a search by
--- halving, so that the answer is settled in every table, also in one that falls, where several entries may fit. The
--- laws `chosen` and `chosen-unique` give it its meaning.
+-- halving and then to the front over equal entries, so that the answer is settled in every table, also in one that
+-- falls, where several entries may be allowed. What it is held to, below, says the rule without the search: `Allowed`
+-- in every table, `FirstOfGreatest` and `land_of` in one that never falls.
 -- Assumes nothing.
-use Rattle.std.specs.Prelude.{◌≡◌, ℕ, zero, suc, ◌+◌, ◌-◌, ◌/◌, ◌<◌, ◌≤◌, Bool, true, false, ◌⊎◌, List, [], ◌∷◌, Option}
+use Rattle.std.specs.Prelude.{◌≡◌, ◌≢◌, ℕ, zero, suc, ◌+◌, ◌-◌, ◌/◌, ◌<◌, ◌≤◌, Bool, true, false, List, [], ◌∷◌, Option}
 use Rattle.std.specs.Prelude.{Some, None, map, length, drop, ◌==◌, nat_le, nat_lt, slice_index, option_map}
 use Rattle.std.specs.Prelude.{if◌then◌else◌}
 use Rattle.std.specs.Int.{Width, w8, w16, w32, w64, from_le_bytes}
@@ -21,16 +22,22 @@ halving (suc k) table wanted lo len =
     else halving k table wanted (if nat_le (slice_index table (lo + len / 2)) wanted then lo + len / 2 else lo)
     (len - len / 2)
 
--- the index that is chosen among the len entries from lo on: each turn takes at least one of them away, so len turns
--- are enough
-unfoldable pub chosen_from : List ℕ → ℕ → ℕ → ℕ → ℕ
-chosen_from table wanted lo len = halving len table wanted lo len
+-- the index that halving comes to among the len entries from lo on: each turn takes at least one of them away, so len
+-- turns are enough
+unfoldable pub halved_from : List ℕ → ℕ → ℕ → ℕ → ℕ
+halved_from table wanted lo len = halving len table wanted lo len
 
--- no entries, or the first entry above: unknown
+-- where the run of equal entries that ends with entry k starts
+unfoldable pub run_start : List ℕ → ℕ → ℕ
+run_start table zero = zero
+run_start table (suc k) = if slice_index table k == slice_index table (suc k) then run_start table k else suc k
+
+-- no entries, or the first entry above: unknown; else the start of the run that halving comes to
 unfoldable pub find_in : List ℕ → ℕ → Option ℕ
 find_in table wanted =
     if length table == 0 then None
-    else if nat_lt wanted (slice_index table 0) then None else Some (chosen_from table wanted 0 (length table))
+    else if nat_lt wanted (slice_index table 0) then None
+    else Some (run_start table (halved_from table wanted 0 (length table)))
 
 -- the offset sizes
 abbrev pub is_width : ℕ → Bool
@@ -75,31 +82,39 @@ pub data Nowhere (v : View) (addr : Address) : Type 0 where
   no_entries : v.tables.count ≡ 0 → Nowhere v addr
   first_above : addr.0 - v.tables.base.0 < slice_index (entries_of v) 0 → Nowhere v addr
 
--- entry i isn't above, and it is the last or the next one is above
-pub record Chosen (table : List ℕ) (wanted i : ℕ) : Type 0 where
+-- the entries from i on, up to j but not j itself, are equal
+abbrev pub Run : List ℕ → ℕ → ℕ → Type 0
+Run table i j = (k : ℕ) → i ≤ k → k < j → slice_index table k ≡ slice_index table i
+
+-- in every table: entry i isn't above, the entry before it, if there is one, differs from it, and the next entry that
+-- differs from it, if there is one, is above
+pub record Allowed (table : List ℕ) (wanted i : ℕ) : Type 0 where
   pub inside : i < length table
   pub not_above : slice_index table i ≤ wanted
-  pub last : (i + 1 ≡ length table) ⊎ (wanted < slice_index table (i + 1))
+  pub starts_run : (j : ℕ) → i ≡ suc j → slice_index table j ≢ slice_index table i
+  pub next_above : (j : ℕ) → i < j → j < length table → Run table i j → slice_index table j ≢ slice_index table i →
+      wanted < slice_index table j
 
--- what may be answered: an entry that fits, where the first isn't above; else unknown
-abbrev pub Right : List ℕ → ℕ → Option ℕ → Type 0
-Right table wanted (Some i) = (slice_index table 0 ≤ wanted) × Chosen table wanted i
-Right table wanted None = (length table ≡ 0) ⊎ (wanted < slice_index table 0)
-
--- the last entry that isn't above
-pub record LastNotAbove (table : List ℕ) (wanted i : ℕ) : Type 0 where
+-- in a table that never falls: of the entries that aren't above none is greater, and all before it are less
+pub record FirstOfGreatest (table : List ℕ) (wanted i : ℕ) : Type 0 where
   pub inside : i < length table
   pub not_above : slice_index table i ≤ wanted
-  pub above_after : (j : ℕ) → i < j → j < length table → wanted < slice_index table j
+  pub greatest : (j : ℕ) → j < length table → slice_index table j ≤ wanted → slice_index table j ≤ slice_index table i
+  pub less_before : (j : ℕ) → j < i → slice_index table j < slice_index table i
 
--- the last entry of a table that isn't above, one entry after another: what the search comes to in a table that never
--- falls
-unfoldable pub land_from : ℕ → List ℕ → ℕ → Option ℕ → Option ℕ
+-- the same counted along the table, one entry after another: an entry that isn't above takes the place of the best so
+-- far where there is none yet, or where it is greater
+abbrev pub is_better : Option (ℕ × ℕ) → ℕ → Bool
+is_better None e = true
+is_better (Some (i, best)) e = nat_lt best e
+
+unfoldable pub land_from : ℕ → List ℕ → ℕ → Option (ℕ × ℕ) → Option (ℕ × ℕ)
 land_from i [] wanted best = best
-land_from i (e ∷ es) wanted best = land_from (i + 1) es wanted (if nat_le e wanted then Some i else best)
+land_from i (e ∷ es) wanted best =
+    land_from (i + 1) es wanted (if nat_le e wanted then if is_better best e then Some (i, e) else best else best)
 
 unfoldable pub land_of : List ℕ → ℕ → Option ℕ
-land_of table wanted = land_from 0 table wanted None
+land_of table wanted = option_map (λ best. best.0) (land_from 0 table wanted None)
 
 -- the addresses of the entries: the base plus each
 unfoldable pub addresses_of : View → List ℕ

@@ -2,8 +2,8 @@
 //! clause is about the definitions alone.
 ghost use Rattle.gsym_parser.specs.Examples.{SmallFile};
 
-/// A file of three entries, written out: where its tables stand, the entries of addresses, and what they say (RULES,
-/// "Further examples").
+/// A file of three entries, written out: where its tables stand, the entries of addresses, and what they say; and which
+/// entry is found in tables with equal entries and in some that fall (RULES, "Further examples").
 pub fn small_file()
     ensures { SmallFile }
 {}

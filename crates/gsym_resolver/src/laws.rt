@@ -1,5 +1,6 @@
 //! Laws of the definitions that contracts name. Nothing runs here: each clause is about the definitions alone.
-ghost use Rattle.std.specs.Prelude.{◌≡◌, ◌↔◌, ◌≤◌, ◌⊎◌, ℕ, false, List, Ok, Err, IsOk};
+ghost use Rattle.std.specs.Prelude.{◌≡◌, ◌↔◌, ◌≤◌, ◌⊎◌, ◌-◌, ℕ, false, List, Ok, Err, IsOk};
+ghost use Rattle.std.specs.List.Sorted.{IsNonDecreasing};
 ghost use Rattle.std.specs.Result.{result_map_both};
 ghost use Rattle.gsym_types.specs.declared.Address.{Address};
 ghost use Rattle.gsym_types.specs.declared.Options.{Options};
@@ -7,6 +8,7 @@ ghost use Rattle.gsym_types.specs.declared.Refusal.{Refusal};
 ghost use Rattle.gsym_types.specs.declared.Refusal.TheVariants.{TooManyFrames};
 ghost use Rattle.gsym_types.specs.Refusal.{number_of};
 ghost use Rattle.gsym_parser.specs.Entries.{symbol_at};
+ghost use Rattle.gsym_parser.specs.Search.{entries_of, Allowed, FirstOfGreatest};
 ghost use Rattle.gsym_resolver.specs.Examples.{MarkedExamples};
 ghost use Rattle.gsym_resolver.specs.WholeLookups.{WholeLookups};
 ghost use Rattle.gsym_resolver.specs.Lookup.{LookedUp, lookup_of};
@@ -49,6 +51,16 @@ pub fn refused_or_answered()
         → (lookup_of file addr options room ≡ Ok l) ↔ Answered file addr options room l }
     ensures unmet { (file : List ℕ) (addr : Address) (options : Options) (room : ℕ)
         → IsOk (lookup_of file addr options room) ↔ ((r : Refusal) → Met file addr options room r → ⊥) }
+{}
+
+/// The entry whose data an answer says, or a refusal that comes behind its information, is allowed; in a table that
+/// never falls it is the first of the greatest that aren't above the address, also where equal entries stand in a row
+/// (RULES, "Finding the entry").
+pub fn entry_landed_on()
+    ensures allowed { (file : List ℕ) (addr : Address) (e : Entered file addr)
+        → Allowed (entries_of e.view) (addr.0 - e.view.tables.base.0) e.index }
+    ensures first { (file : List ℕ) (addr : Address) (e : Entered file addr) → IsNonDecreasing (entries_of e.view)
+        → FirstOfGreatest (entries_of e.view) (addr.0 - e.view.tables.base.0) e.index }
 {}
 
 /// Without code info a refusal is one of 1 to 6, without inlining one of 1 to 9; from 10 on it is the first fault of

@@ -33,8 +33,8 @@ use gsym_types::{
 use landing::{Entry, land};
 use later_frames::push_later;
 pub use laws::{
-    marked_examples, more_room, refusals_by_option, refused_or_answered, texts_from_values,
-    told_in_values, whole_lookups,
+    entry_landed_on, marked_examples, more_room, refusals_by_option, refused_or_answered,
+    texts_from_values, told_in_values, whole_lookups,
 };
 use positions::position_at;
 

@@ -8,14 +8,16 @@ use borrow.Author.Tests.{eqb-false}
 use Rattle.gsym_reads.specs.Maybe.{◌>>=◌, ◌>>◌, need}
 use Rattle.gsym_strtab.specs.Utf8.{Range, range, within, Start, starts, nowhere, characters, after}
 use Rattle.gsym_strtab.specs.Utf8.{begun, followers, octets, utf8}
-use Rattle.gsym_strtab.specs.Steps.{met, sized, char_len}
+use Rattle.gsym_strtab.specs.Steps.{met, sized, char_len, run_len}
 use Rattle.gsym_strtab.specs.Strings.{before_zero, name_in}
 use Rattle.gsym_strtab.proofs.Ranges.{in-range}
 use Rattle.gsym_strtab.proofs.Table.{both, both_left, both_right}
 use Rattle.gsym_strtab.proofs.Leading.{followers-ascii}
 use Rattle.gsym_strtab.proofs.Chars.{char-at}
 use Rattle.gsym_strtab.proofs.Passing.{longer, text-begin, text-more, before_zero-nil, before_zero-zero, longer-none}
-use Rattle.gsym_strtab.proofs.Passing.{longer-longer}
+use Rattle.gsym_strtab.proofs.Passing.{longer-longer, Passed, begin, ended, failed}
+use Rattle.gsym_strtab.proofs.Runs.{pass-run}
+use Rattle.std.specs.Option.{option_map}
 
 -- no range has the zero byte
 high : List Range → Bool
@@ -243,3 +245,54 @@ module _ (s : List ℕ) (i : ℕ) where
           ∙ onward-next (drop (suc i) s) (followers (get_or s i 0)) n (followers-high (get_or s i 0))
           (sym (char-at s i h) ∙ sym e) z
           ∙ ap (λ x. longer n (named [] x)) (drop-drop (n - 1) (suc i) s ∙ ap (λ k. drop k s) j)
+
+-- ------------------------------------------------------------------------------------------------
+-- a run of ASCII in front of the rest of a name
+
+module _ (s : List ℕ) (at j : ℕ) (e : j ≡ at + run_len (range 1 0x7f) (drop at s)) where
+  ascii-passed : Passed (name_in s at) (named []) s at j
+  ascii-passed = pass-run (range 1 0x7f) (named []) name-byte (begin s at (name-begin s at)) j e
+
+  pub name_endless : length s ≤ j → None ≡ name_in s at
+  name_endless l = failed ascii-passed (name-over s j l)
+
+  pub name_ended : j < length s → get_or s j 0 ≡ 0 → Some (j - at) ≡ name_in s at
+  name_ended l z = ended ascii-passed (name-zero s j l z)
+
+  by-rest : (o : Option ℕ) → o ≡ name_in s j → longer (j - at) o ≡ name_in s at
+  by-rest o q = ap (longer (j - at)) (q ∙ name-begin s j) ∙ sym ascii-passed.rest
+
+  pub name_broken : None ≡ option_map (λ n. j + n) (name_in s j) → None ≡ name_in s at
+  name_broken q = go (name_in s j) refl q
+    where
+      go : (o : Option ℕ) → o ≡ name_in s j → None ≡ option_map (λ n. j + n) o → None ≡ name_in s at
+      go None r q = by-rest None r
+      go (Some n) r q = absurd cc
+
+  -- its end, and that it isn't in front of its start
+  rest-ends :
+      (end : ℕ) (o : Option ℕ) → o ≡ name_in s j → Some end ≡ option_map (λ n. j + n) o →
+      (at ≤ end) × (Some (end - at) ≡ name_in s at)
+  rest-ends end None r q = absurd cc
+  rest-ends end (Some n) r q =
+      let z : end ≡ j + n = cc in
+      let f = ascii-passed.from in
+      let y : end - at ≡ j - at + n = omega (arith, z, f) in
+      (omega (arith, z, f), ap Some y ∙ by-rest (Some n) r)
+
+  pub name_on : (end : ℕ) → Some end ≡ option_map (λ n. j + n) (name_in s j) →
+      (at ≤ end) × (Some (end - at) ≡ name_in s at)
+  name_on end q = rest-ends end (name_in s j) refl q
+
+pub name_outside : (s : List ℕ) (at : ℕ) → length s ≤ at → None ≡ name_in s at
+name_outside s at l = sym (name-begin s at ∙ name-over s at l)
+
+-- the place where a name ends, from its length
+pub end_none : (s : List ℕ) (at : ℕ) → None ≡ name_in s at → None ≡ option_map (λ n. at + n) (name_in s at)
+end_none s at q = ap (option_map (λ n. at + n)) q
+
+pub end_at :
+    (s : List ℕ) (at j : ℕ) → at ≤ j → Some (j - at) ≡ name_in s at →
+    Some j ≡ option_map (λ n. at + n) (name_in s at)
+end_at s at j l q =
+    let z : j ≡ at + (j - at) = omega arith in ap Some z ∙ ap (option_map (λ n. at + n)) q

@@ -8,14 +8,14 @@ mod scan;
 mod utf8;
 
 ghost use Rattle.std.specs.Prelude.{◌≡◌, ◌≢◌, ◌+◌, ◌<◌, ◌≤◌, ◌↔◌, [], length, take, drop, All, IfSome, IsSome, IsNone};
-ghost use Rattle.std.specs.Prelude.{IsSomeAnd, IsUtf8};
+ghost use Rattle.std.specs.Prelude.{IsSomeAnd, IsUtf8, option_map};
 ghost use Rattle.gsym_strtab.specs.Strings.{part_of, text_in, name_in, text_at, name_at, bytes_from, EndsBeforeZero};
 ghost use Rattle.gsym_strtab.specs.Strings.{StartsAt};
 
 use gsym_types::{StrOffset, Text};
 pub use laws::utf8_bounds;
 pub use lengths::sequence_len;
-use scan::{ascii_end, run_end};
+use scan::{ascii_end, ascii_run_end, run_end};
 use utf8::char_len;
 pub use utf8::is_utf8;
 
@@ -111,24 +111,46 @@ fn text_in(strings: &[u8], at: usize) -> Option<usize>
     Some(end - at)
 }
 
-// The length of the name at an offset of the table's bytes. One pass looks for the zero byte and judges UTF-8: no
-// character but the zero byte itself has a zero byte in it. `is_utf8` takes the same turns, but there a zero byte is a
-// character and the end no fault: one function over both would ask a flag at each.
-fn name_in(strings: &[u8], at: usize) -> Option<usize>
-    ensures { result ≡ name_in strings.now at }
+// The length of the name at an offset of the table's bytes. Most names are ASCII alone and end here, so that what a
+// name beyond ASCII needs stands in a function of its own (DECISIONS, D33).
+#[tactic(auto, using(crate::proofs::Names::name_outside, crate::proofs::Names::name_endless, crate::proofs::Names::name_ended, crate::proofs::Names::name_broken, crate::proofs::Names::name_on))]
+fn name_in(strings: &[u8], start: usize) -> Option<usize>
+    ensures { result ≡ name_in strings.now start }
+{
+    if strings.len() <= start {
+        return None;
+    }
+    let j = ascii_end(strings, start);
+    if strings.len() <= j {
+        return None;
+    }
+    if strings[j] == 0 {
+        return Some(j - start);
+    }
+    let end = name_end(strings, j)?;
+    Some(end - start)
+}
+
+// Where the name ends that starts at an offset of the table's bytes. One pass looks for the zero byte and judges UTF-8:
+// no character but the zero byte itself has a zero byte in it. `is_utf8` takes the same turns, but there a zero byte is
+// a character and the end no fault: one function over both would ask a flag at each.
+#[inline(never)]
+fn name_end(strings: &[u8], at: usize) -> Option<usize>
+    ensures { result ≡ option_map (λ n. at + n) (name_in strings.now at) }
 {
     let mut i = at;
-    // A turn takes a run of ASCII and a character behind it: it is no element of a slice.
+    // A turn takes a run of ASCII, if one stands here, and a character behind it: it is no element of a slice.
     while i < strings.len() {
-        let j = ascii_end(strings, i);
-        if strings.len() <= j {
-            return None;
+        if strings[i] < 0x80 {
+            i = ascii_run_end(strings, i);
+            if strings.len() <= i {
+                return None;
+            }
+            if strings[i] == 0 {
+                return Some(i);
+            }
         }
-        if strings[j] == 0 {
-            return Some(j - at);
-        }
-        let n = char_len(strings, j)?;
-        i = j + n;
+        i += char_len(strings, i)?;
     }
     None
 }

@@ -3,16 +3,27 @@ ghost use Rattle.std.specs.Prelude.{◌≡◌, ◌+◌, ◌<◌, ◌≤◌, leng
 ghost use Rattle.gsym_strtab.specs.Utf8.{range, within};
 ghost use Rattle.gsym_strtab.specs.Steps.{run_len, count_in};
 
-// The first place from `at` on whose byte is not one from 1 to 7f, or the end. Characters beyond ASCII mostly stand in
-// a row, so sixteen bytes at once are not tried where one starts (DECISIONS, D33). Its callers ask inside the slice.
-#[tactic(auto, using(crate::proofs::Runs::beyond_ascii, crate::proofs::Counting::skip_counted))]
+// The first place from `at` on whose byte is not one from 1 to 7f, or the end. Where a character beyond ASCII starts no
+// run is tried (DECISIONS, D33). Its caller asks inside the slice.
+#[inline(always)]
+#[tactic(auto, using(crate::proofs::Runs::beyond_ascii))]
 pub(crate) fn ascii_end(s: &[u8], at: usize) -> usize
     requires { at < length s.now }
     ensures { result ≡ at + run_len (range 1 0x7f) (drop at s.now) }
 {
     if 0x80 <= s[at] {
-        return at;
+        at
+    } else {
+        ascii_run_end(s, at)
     }
+}
+
+// The same, where there is a run to try: its callers have seen ASCII at `at`.
+#[tactic(auto, using(crate::proofs::Counting::skip_counted))]
+pub(crate) fn ascii_run_end(s: &[u8], at: usize) -> usize
+    requires { at < length s.now }
+    ensures { result ≡ at + run_len (range 1 0x7f) (drop at s.now) }
+{
     let mut i = at;
     // By hand: a turn takes sixteen bytes, which one comparison judges (`sixteen_in`), and is no element of a slice.
     while 16 <= s.len() - i && sixteen_in(s, i) == 16 {

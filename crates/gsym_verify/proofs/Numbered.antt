@@ -28,7 +28,7 @@ use Rattle.gsym_verify.specs.Faults.{LineFault, no_header as no_line_header, sto
 use Rattle.gsym_verify.specs.Faults.{ItemFault, in_line, in_tree}
 use Rattle.gsym_verify.specs.Faults.{ListFault, in_item, open_list}
 use Rattle.gsym_verify.specs.Faults.{DataFault, sum_too_large, unnamed, in_list}
-use Rattle.gsym_verify.specs.Faults.{EntryFault, not_rising, no_info, in_data}
+use Rattle.gsym_verify.specs.Faults.{EntryFault, falls, no_info, in_data}
 use Rattle.gsym_verify.specs.Faults.{IsFirstFault, unopened, offset_size, in_entry}
 use Rattle.gsym_verify.specs.Finding.{IsOfEntry, IsOfCheck}
 use Rattle.gsym_verify.specs.declared.finding.Fault.{Fault}
@@ -64,7 +64,7 @@ data-number shared symbol said f (unnamed l n) = inl (omega arith, omega arith)
 data-number shared symbol said f (in_list l n p) = list-number _ said.items said.closed f p
 
 entry-number : (v : View) (i : ℕ) (f : Fault) → EntryFault v i f → IsOfEntry f
-entry-number v i f (not_rising j e l) = inr (inr (omega arith, omega arith))
+entry-number v i f (falls j e l) = inr (inr (omega arith, omega arith))
 entry-number v i f (no_info r n) = inl (omega arith, omega arith)
 entry-number v i f (in_data r said e p) = data-number _ _ said f p
 

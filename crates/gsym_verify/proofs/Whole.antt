@@ -4,7 +4,9 @@ use Rattle.std.proofs.Common.{◌≡◌, ◌↔◌, ◌⊎◌, inl, inr, ⊎_eli
 use Rattle.std.proofs.Common.{Result, None, List, [], ◌∷◌, length, drop, drop-cons, length-drop, get_or, refl}
 use Rattle.std.proofs.Common.{sym, ap, subst, ◌∙◌, arith, add-one}
 use Rattle.std.specs.Prelude.{IsOk, IfErr}
-use Rattle.std.specs.List.Sorted.{IsStrictlyIncreasing}
+use Rattle.std.specs.List.Sorted.{IsNonDecreasing}
+use Rattle.std.proofs.lemmas.List.{get_or_default}
+use Rattle.std.proofs.lemmas.List.Sorted.{IsNonDecreasingBy-from_all_adjacent}
 use Rattle.gsym_reads.specs.Steps.{◌>>=◌, ◌>>◌, need, told}
 use Rattle.gsym_reads.proofs.Steps.{by_test}
 use Rattle.gsym_types.specs.declared.Refusal.{Refusal}
@@ -17,7 +19,7 @@ use Rattle.gsym_resolver.specs.SharedTables.{shared_tables}
 use Rattle.gsym_verify.specs.Content.{contents_from}
 use Rattle.gsym_verify.specs.Check.{entries_checked, content_checked, check_of}
 use Rattle.gsym_verify.specs.Good.{GoodEntry, Good}
-use Rattle.gsym_verify.specs.Faults.{Rises, EntryFault, IsFirstFault, unopened, offset_size, in_entry}
+use Rattle.gsym_verify.specs.Faults.{NotBelow, EntryFault, IsFirstFault, unopened, offset_size, in_entry}
 use Rattle.gsym_verify.specs.declared.finding.Fault.{Fault}
 use Rattle.gsym_verify.specs.declared.finding.Finding.{Finding}
 use Rattle.gsym_verify.specs.declared.finding.Finding.TheVariants.{Tables, OffsetSize, Entry}
@@ -41,7 +43,7 @@ module _ (v : View) where
 
   -- an entry that has no fault
   abbrev Fine : ℕ → Type 0
-  Fine j = Rises v j × GoodEntry v j
+  Fine j = NotBelow v j × GoodEntry v j
 
   -- from an index on, the first entry with a fault
   record FaultFrom (i : ℕ) (x : Finding) : Type 0 where
@@ -150,14 +152,15 @@ module _ (v : View) where
       rw (entry_good_is v i h.0 h.1) (entries_faulty es (suc i) q.2 index fault k m g f))
       (this-or-later i index l))
 
-  -- that each entry rises is that the table does
-  rises_all : ((j : ℕ) → j < length (entries_of v) → Rises v j) → IsStrictlyIncreasing (entries_of v)
-  rises_all r k l = r (k + 1) l k (add-one k)
+  -- that no entry is below the one before it is that the table never falls
+  below_none : ((j : ℕ) → j < length (entries_of v) → NotBelow v j) → IsNonDecreasing (entries_of v)
+  below_none r =
+      IsNonDecreasingBy-from_all_adjacent (λ x. x) (entries_of v) (λ k d l.
+      rw (get_or_default (entries_of v) k d 0 (omega arith), get_or_default (entries_of v) (k + 1) d 0 l)
+      (r (k + 1) l k (add-one k)))
 
-  rises_each : IsStrictlyIncreasing (entries_of v) → (i : ℕ) → i < length (entries_of v) → Rises v i
-  rises_each r i l j z =
-      let q : j + 1 ≡ i = omega (arith, z) in
-      subst (λ (n : ℕ). get_or (entries_of v) j 0 < get_or (entries_of v) n 0) q (r j (omega (arith, z, l)))
+  below_each : IsNonDecreasing (entries_of v) → (i : ℕ) → i < length (entries_of v) → NotBelow v i
+  below_each up i l j z = up j i 0 (omega (arith, z)) l
 
 -- ---- a file
 
@@ -174,12 +177,12 @@ module _ (file : List ℕ) where
           (v : View) → opened_of file ≡ Ok v → is_width v.tables.offset_size ≡ true →
           (x : Result (Unit {0}) Finding) → EntriesSettled v 0 x → CheckSettled x
       entries v e w (Ok u) s =
-          let n : (j : ℕ) → j < length (entries_of v) → Rises v j × GoodEntry v j = λ j l. s j (omega arith) l in
+          let n : (j : ℕ) → j < length (entries_of v) → NotBelow v j × GoodEntry v j = λ j l. s j (omega arith) l in
           record {
             view = v;
             opens = e;
             width = w;
-            rises = rises_all v (λ j l. (n j l).0);
+            never_falls = below_none v (λ j l. (n j l).0);
             entries = λ i l. (n i (omega (arith, l, table-full v w))).1;
           }
       entries v e w (Err x) s =
@@ -201,7 +204,7 @@ module _ (file : List ℕ) where
       let n = table-full G.view G.width in
       rw (G.opens, G.width)
       (entries_good G.view (entries_of G.view) 0 refl
-      (λ j l. (rises_each G.view G.rises j l, G.entries j (omega (arith, l, n)))))
+      (λ j l. (below_each G.view G.never_falls j l, G.entries j (omega (arith, l, n)))))
 
   pub only_fault : (x : Finding) → IsFirstFault file x → check_of file ≡ Err x
   unfolding check_of content_checked

@@ -1,9 +1,9 @@
 -- The check of a whole file, in the order of RULES ("Checking a file"): opening (2, 3, 4), the offset size (20), and of
--- each entry that it rises (21), its information (5), its sum (22), its name (6), the items of its list in their order
--- (9 to 13, 23), and the list's end (24).
+-- each entry that it isn't below the one before it (21), its information (5), its sum (22), its name (6), the items of
+-- its list in their order (9 to 13, 23), and the list's end (24).
 -- Assumes nothing.
 use Rattle.std.specs.Prelude.{ℕ, ◌+◌, Bool, true, List, [], ◌∷◌, Option, Some, None, Ok, Err, Result, ◌==◌, nat_le}
-use Rattle.std.specs.Prelude.{nat_lt, is_some, if◌then◌else◌}
+use Rattle.std.specs.Prelude.{is_some, if◌then◌else◌}
 use Rattle.gsym_reads.specs.Steps.{◌>>=◌, ◌>>◌, need, given, told}
 use Rattle.gsym_types.specs.declared.Address.{Address}
 use Rattle.gsym_types.specs.declared.Refusal.TheVariants as refused
@@ -20,7 +20,7 @@ use Rattle.gsym_resolver.specs.EntryData.{EntryData}
 use Rattle.gsym_resolver.specs.Known.{line_table, inline_info}
 use Rattle.gsym_verify.specs.Content.{EntryContent, Content, content_of}
 use Rattle.gsym_verify.specs.declared.finding.Fault.{Fault}
-use Rattle.gsym_verify.specs.declared.finding.Fault.TheVariants.{NotRising, SumTooLarge, StoppedProgram, OpenList}
+use Rattle.gsym_verify.specs.declared.finding.Fault.TheVariants.{FallingTable, SumTooLarge, StoppedProgram, OpenList}
 use Rattle.gsym_verify.specs.declared.finding.Fault.TheVariants.{Refused}
 use Rattle.gsym_verify.specs.declared.finding.Finding.{Finding}
 use Rattle.gsym_verify.specs.declared.finding.Finding.TheVariants.{Tables, OffsetSize, Entry}
@@ -51,10 +51,10 @@ list_checked symbol (item ∷ items) closed = do
 
 -- ---- an entry
 
--- the first entry rises, and each that is above the one before it
-abbrev pub is_rising : Option ℕ → ℕ → Bool
-is_rising None symbol = true
-is_rising (Some before) symbol = nat_lt before symbol
+-- an entry is not below the one before it, if there is one
+abbrev pub is_not_below : Option ℕ → ℕ → Bool
+is_not_below None symbol = true
+is_not_below (Some before) symbol = nat_le before symbol
 
 -- whether a name reads
 abbrev pub has_name : List ℕ → ℕ → Bool
@@ -70,7 +70,7 @@ data_checked strings symbol said = do
 -- an entry, with the symbol's address of the one before it
 unfoldable pub entry_checked : List ℕ → Option ℕ → EntryContent → Result (Unit {0}) Fault
 entry_checked strings before e = do
-  need (is_rising before e.symbol) NotRising
+  need (is_not_below before e.symbol) FallingTable
   said ← given (Refused refused.UnreadInfo) e.says
   data_checked strings e.symbol said
 

@@ -28,7 +28,7 @@ use Rattle.gsym_types.specs.declared.Refusal.TheVariants.{
   TooDeep,
 }
 use Rattle.gsym_verify.specs.Check.{check_of}
-use Rattle.gsym_verify.specs.declared.finding.Fault.TheVariants.{NotRising, SumTooLarge, StoppedProgram, OpenList}
+use Rattle.gsym_verify.specs.declared.finding.Fault.TheVariants.{FallingTable, SumTooLarge, StoppedProgram, OpenList}
 use Rattle.gsym_verify.specs.declared.finding.Fault.TheVariants.{Refused}
 use Rattle.gsym_verify.specs.declared.finding.Finding.{Finding}
 use Rattle.gsym_verify.specs.declared.finding.Finding.TheVariants.{Tables, OffsetSize, Entry}
@@ -102,8 +102,8 @@ pub record CheckedFiles : Type 0 where
   pub no_entries : check_of (empty 4) ≡ Ok tt
   pub odd_width : check_of (empty 3) ≡ found OffsetSize
   -- the second entry is the same as the first, and below it
-  pub equal : check_of (changed 50 0 file) ≡ found (Entry 1 NotRising)
-  pub falls : check_of (changed 48 0x30 file) ≡ found (Entry 1 NotRising)
+  pub equal : check_of (changed 50 0 file) ≡ Ok tt
+  pub falls : check_of (changed 48 0x30 file) ≡ found (Entry 1 FallingTable)
   -- the second's data are seven bytes
   pub no_info : check_of (changed 56 136 file) ≡ found (Entry 1 (Refused UnreadInfo))
   -- the second ends at 2^64, and at 2^64-1
@@ -139,6 +139,6 @@ pub record CheckedFiles : Type 0 where
   -- the last list lacks a byte of type 0
   pub not_closed : check_of (take 142 file) ≡ found (Entry 1 OpenList)
   -- of faults in both entries the first entry's is told, and of two in one entry the one that RULES has first
-  pub lower_entry : check_of (changed 117 1 (changed 50 0 file)) ≡ found (Entry 0 (Refused UnreadInline))
+  pub lower_entry : check_of (changed 117 1 (changed 48 0x30 file)) ≡ found (Entry 0 (Refused UnreadInline))
   pub sum_before_name : check_of (changed 126 3 at_the_top) ≡ found (Entry 1 SumTooLarge)
-  pub rising_before_information : check_of (changed 50 0 (changed 56 136 file)) ≡ found (Entry 1 NotRising)
+  pub fall_before_information : check_of (changed 48 0x30 (changed 56 136 file)) ≡ found (Entry 1 FallingTable)

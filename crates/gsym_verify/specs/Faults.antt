@@ -23,7 +23,7 @@ use Rattle.gsym_resolver.specs.Met.{First}
 use Rattle.gsym_resolver.specs.SharedTables.{SharedTables, shared_tables, HasName}
 use Rattle.gsym_verify.specs.Good.{GoodItem, GoodEntry, start_of}
 use Rattle.gsym_verify.specs.declared.finding.Fault.{Fault}
-use Rattle.gsym_verify.specs.declared.finding.Fault.TheVariants.{NotRising, SumTooLarge, StoppedProgram, OpenList}
+use Rattle.gsym_verify.specs.declared.finding.Fault.TheVariants.{FallingTable, SumTooLarge, StoppedProgram, OpenList}
 use Rattle.gsym_verify.specs.declared.finding.Fault.TheVariants.{Refused}
 use Rattle.gsym_verify.specs.declared.finding.Finding.{Finding}
 use Rattle.gsym_verify.specs.declared.finding.Finding.TheVariants.{Tables, OffsetSize, Entry}
@@ -57,16 +57,16 @@ pub data DataFault (shared : SharedTables) (symbol : ℕ) (said : EntryData) : F
   in_list : {f : Fault} → symbol + said.size ≤ most_address → HasName shared said.name →
       ListFault (record { 0 = symbol }) said.items said.closed f → DataFault shared symbol said f
 
--- an entry is above the one before it, if there is one
-abbrev pub Rises : View → ℕ → Type 0
-Rises v i = (j : ℕ) → i ≡ suc j → slice_index (entries_of v) j < slice_index (entries_of v) i
+-- an entry isn't below the one before it, if there is one
+abbrev pub NotBelow : View → ℕ → Type 0
+NotBelow v i = (j : ℕ) → i ≡ suc j → slice_index (entries_of v) j ≤ slice_index (entries_of v) i
 
--- that it isn't comes first (21), then its information (5), then what that says
+-- that it is below comes first (21), then its information (5), then what that says
 pub data EntryFault (v : View) (i : ℕ) : Fault → Type 0 where
-  not_rising : (j : ℕ) → i ≡ suc j → slice_index (entries_of v) i ≤ slice_index (entries_of v) j →
-      EntryFault v i NotRising
-  no_info : Rises v i → data_at v i ≡ None → EntryFault v i (Refused refused.UnreadInfo)
-  in_data : {f : Fault} → Rises v i → (said : EntryData) → data_at v i ≡ Some said →
+  falls : (j : ℕ) → i ≡ suc j → slice_index (entries_of v) i < slice_index (entries_of v) j →
+      EntryFault v i FallingTable
+  no_info : NotBelow v i → data_at v i ≡ None → EntryFault v i (Refused refused.UnreadInfo)
+  in_data : {f : Fault} → NotBelow v i → (said : EntryData) → data_at v i ≡ Some said →
       DataFault (shared_tables v) (start_of v i) said f → EntryFault v i f
 
 -- ---- a file
@@ -77,5 +77,5 @@ pub data IsFirstFault (file : List ℕ) : Finding → Type 0 where
   offset_size : (v : View) → opened_of file ≡ Ok v → is_width v.tables.offset_size ≡ false →
       IsFirstFault file OffsetSize
   in_entry : {i : ℕ} {f : Fault} (v : View) → opened_of file ≡ Ok v → is_width v.tables.offset_size ≡ true →
-      i < v.tables.count → ((j : ℕ) → j < i → Rises v j × GoodEntry v j) → EntryFault v i f →
+      i < v.tables.count → ((j : ℕ) → j < i → NotBelow v j × GoodEntry v j) → EntryFault v i f →
       IsFirstFault file (Entry i f)

@@ -3,13 +3,13 @@
 use Rattle.std.specs.Prelude.{ℕ, ◌≤◌, ◌⊎◌}
 use Rattle.gsym_types.specs.Refusal.{number_of}
 use Rattle.gsym_verify.specs.declared.finding.Fault.{Fault}
-use Rattle.gsym_verify.specs.declared.finding.Fault.TheVariants.{NotRising, SumTooLarge, StoppedProgram, OpenList}
+use Rattle.gsym_verify.specs.declared.finding.Fault.TheVariants.{FallingTable, SumTooLarge, StoppedProgram, OpenList}
 use Rattle.gsym_verify.specs.declared.finding.Fault.TheVariants.{Refused}
 use Rattle.gsym_verify.specs.declared.finding.Finding.{Finding}
 use Rattle.gsym_verify.specs.declared.finding.Finding.TheVariants.{Tables, OffsetSize, Entry}
 
 abbrev pub fault_number : Fault → ℕ
-fault_number NotRising = 21
+fault_number FallingTable = 21
 fault_number SumTooLarge = 22
 fault_number StoppedProgram = 23
 fault_number OpenList = 24

@@ -3,7 +3,7 @@
 -- Assumes nothing.
 use Rattle.std.specs.Prelude.{◌≡◌, ℕ, ◌+◌, ◌<◌, ◌≤◌, true, List, Some, Ok, slice_index}
 use Rattle.std.specs.List.{All}
-use Rattle.std.specs.List.Sorted.{IsStrictlyIncreasing}
+use Rattle.std.specs.List.Sorted.{IsNonDecreasing}
 use Rattle.gsym_types.specs.declared.Address.{Address}
 use Rattle.gsym_linetab.specs.Endings.{LineInFull}
 use Rattle.gsym_inline.specs.Limits.{most_address}
@@ -44,5 +44,6 @@ pub record Good (file : List ℕ) : Type 0 where
   pub opens : opened_of file ≡ Ok view
   -- the offset size is 1, 2, 4 or 8
   pub width : is_width view.tables.offset_size ≡ true
-  pub rises : IsStrictlyIncreasing (entries_of view)
+  -- no entry is below one before it
+  pub never_falls : IsNonDecreasing (entries_of view)
   pub entries : (i : ℕ) → i < view.tables.count → GoodEntry view i

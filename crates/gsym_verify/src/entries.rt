@@ -7,7 +7,7 @@ ghost use Rattle.gsym_parser.specs.View.{view};
 ghost use Rattle.gsym_resolver.specs.EntryData.{entry_data};
 ghost use Rattle.gsym_verify.specs.declared.finding.Fault.TheVariants.{SumTooLarge};
 ghost use Rattle.gsym_verify.specs.Content.{entry_content, content_of};
-ghost use Rattle.gsym_verify.specs.Check.{is_rising, line_checked, item_checked, list_checked, data_checked};
+ghost use Rattle.gsym_verify.specs.Check.{is_not_below, line_checked, item_checked, list_checked, data_checked};
 ghost use Rattle.gsym_verify.specs.Check.{entry_checked, content_checked};
 
 use super::finding::{Fault, Finding};
@@ -65,12 +65,12 @@ fn check_list(bytes: &[u8], symbol: Address) -> Result<(), Fault>
     }
 }
 
-// Whether an entry is the first, or above the one before it.
-fn is_rising(before: Option<u64>, entry: u64) -> bool
-    ensures { result ≡ is_rising before entry }
+// Whether an entry is the first, or not below the one before it.
+fn is_not_below(before: Option<u64>, entry: u64) -> bool
+    ensures { result ≡ is_not_below before entry }
 {
     match before {
-        Some(before) => before < entry,
+        Some(before) => before <= entry,
         None => true,
     }
 }
@@ -111,8 +111,8 @@ fn check_entry(
     ensures { result ≡ entry_checked (content_of (view context.now)).strings
         (option_map (λ b. context.now.tables.base.0 + b) before) (entry_content (view context.now) index entry) }
 {
-    if !is_rising(before, entry) {
-        return Err(Fault::NotRising);
+    if !is_not_below(before, entry) {
+        return Err(Fault::FallingTable);
     }
     let info = context.addr_info(index).ok_or(Refusal::UnreadInfo)?;
     check_info(context, entry, info)

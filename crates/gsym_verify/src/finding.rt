@@ -9,9 +9,9 @@ use thiserror::Error;
 /// What is wrong with an entry (RULES, "Checking a file").
 #[derive(Clone, Copy, Debug, PartialEq, Eq, Hash, Error)]
 pub enum Fault {
-    /// It is not above the one before it (21).
-    #[error("the address table doesn't rise here")]
-    NotRising,
+    /// It is below the one before it (21).
+    #[error("the address table falls here")]
+    FallingTable,
     /// Base, entry and size come to more than 2^64-1 (22).
     #[error("the symbol ends above 2^64-1")]
     SumTooLarge,
@@ -40,7 +40,7 @@ impl Fault {
         ensures { result ≡ fault_number self }
     {
         match self {
-            Fault::NotRising => 21,
+            Fault::FallingTable => 21,
             Fault::SumTooLarge => 22,
             Fault::StoppedProgram => 23,
             Fault::OpenList => 24,

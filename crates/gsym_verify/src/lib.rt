@@ -1,5 +1,5 @@
 //! A check of a whole file before it is shipped (RULES, "Checking a file"): whether its tables read, its address table
-//! rises, and all that its entries say reads in full.
+//! never falls, and all that its entries say reads in full.
 //!
 //!     finding  what a check finds
 //!     entries  an entry, and what its list says

@@ -3,7 +3,8 @@
 
 #[derive(Clone, Copy, PartialEq, Eq, Debug)]
 pub enum Rule {
-    NotRising,
+    Falls,
+    PastFirstRun,
     SumAbove,
     TooWide,
     TenByteSigned,
@@ -11,8 +12,9 @@ pub enum Rule {
     MoreThanRoom,
 }
 
-pub const RULES: [(Rule, &str); 6] = [
-    (Rule::NotRising, "address table not strictly rising"),
+pub const RULES: [(Rule, &str); 7] = [
+    (Rule::Falls, "an address table that falls"),
+    (Rule::PastFirstRun, "an address past equal entries that the table begins with"),
     (Rule::SumAbove, "symbol address plus size above 2^64-1"),
     (Rule::TooWide, "a LEB128 number too wide"),
     (Rule::TenByteSigned, "a signed LEB128 number of ten bytes"),
@@ -195,7 +197,9 @@ pub struct Tables<'a> {
     entries: Vec<u64>,
     offsets: usize,
     strings: &'a [u8],
-    rising: bool,
+    never_falls: bool,
+    // Whether two entries in a row are equal.
+    pub has_runs: bool,
 }
 
 impl<'a> Tables<'a> {
@@ -220,8 +224,9 @@ impl<'a> Tables<'a> {
             }
         }
         let base = u64::from_le_bytes(file[8..16].try_into().unwrap());
-        let rising = entries.windows(2).all(|w| w[0] < w[1]);
-        Some(Tables { file, base, entries, offsets, strings, rising })
+        let never_falls = entries.windows(2).all(|w| w[0] <= w[1]);
+        let has_runs = entries.windows(2).any(|w| w[0] == w[1]);
+        Some(Tables { file, base, entries, offsets, strings, never_falls, has_runs })
     }
 
     // Addresses at and around the edges of every symbol, and inside it.
@@ -238,11 +243,16 @@ impl<'a> Tables<'a> {
 
     // The rule that puts a lookup outside the domain.
     pub fn outside(&self, addr: u64, code: bool, inlining: bool, room: usize) -> Option<Rule> {
-        if !self.rising {
-            return Some(Rule::NotRising);
+        if !self.never_falls {
+            return Some(Rule::Falls);
         }
         let wanted = addr.checked_sub(self.base)?;
-        let i = self.entries.partition_point(|e| *e <= wanted).checked_sub(1)?;
+        let last = self.entries.partition_point(|e| *e <= wanted).checked_sub(1)?;
+        // of equal entries in a row the first
+        let i = self.entries.partition_point(|e| *e < self.entries[last]);
+        if i == 0 && last > 0 && wanted > self.entries[0] {
+            return Some(Rule::PastFirstRun);
+        }
         let symbol = self.base + self.entries[i];
         let place = u32_at(self.file, self.offsets + 4 * i)? as usize;
         let (size, name) = (u64::from(u32_at(self.file, place)?), u32_at(self.file, place + 4)? as usize);

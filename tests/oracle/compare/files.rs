@@ -163,15 +163,21 @@ fn put32(file: &mut [u8], at: usize, v: u32) {
 pub fn make(r: &mut Random) -> Made {
     let width = if r.one_in(30) { r.below(10) as usize } else { r.pick(&[1, 2, 4, 8]) };
     let base = r.pick(&[0, 0x1000, 0x40_0000, 1 << 40, u64::MAX - 0x400, u64::MAX - 9]);
-    let count = r.pick(&[0, 1, 1, 2, 3, 5, 9]);
+    // in one of five files more than 16, where the search takes two turns at once
+    let count = if r.one_in(5) { 17 + r.below(54) } else { r.pick(&[0, 1, 1, 2, 3, 5, 9]) };
     let mut offset = if r.one_in(4) { r.below(20) } else { 0 };
+    // in one of eight files a third of the entries are equal to the one before them, the second in few
+    let runs = r.one_in(8);
     let mut entries = Vec::new();
     let mut addrs = vec![0, base.wrapping_sub(1), base, u64::MAX];
-    for _ in 0..count {
+    for nth in 0..count {
         let size = if r.one_in(6) { 0 } else { 1 + r.below(90) as u32 };
         entries.push((offset, size));
         offset += match r.below(40) {
             0 => 0,
+            _ if runs && r.one_in(if nth == 0 { 20 } else { 3 }) => 0,
+            // so that many entries of one byte rise
+            _ if width == 1 && count > 16 => 1 + r.below(3),
             1 => 1 << r.below(30),
             _ => u64::from(size) + r.below(6),
         };

@@ -51,6 +51,7 @@ pub fn compare(tally: &mut Tally, file: &[u8], tables: Option<&Tables<'_>>, addr
     }
     let refusal = here.as_ref().err().map_or(0, |r: &Refusal| u32::from(r.number()));
     tally.inside(refusal);
+    tally.runs += u64::from(tables.is_some_and(|t| t.has_runs));
     let agree = facade::with_file(file, addr, options.code_info, options.inlining, |rust| match (&rust, &here) {
         (Err(text), Err(_)) => u32::from(facade::refusal_number(text)) == refusal,
         (Ok(None), Err(_)) => refusal == 1,

@@ -1,12 +1,14 @@
-// What a run of the comparison comes to: cases inside the domain by their number, those outside by the rule that puts them
-// there, and those that differ.
+// What a run of the comparison comes to: cases inside the domain by their number, those outside by the rule that puts
+// them there, and those that differ.
 use crate::domain::{Rule, RULES};
 
 #[derive(Default)]
 pub struct Tally {
     pub inside: [u64; 15],
-    pub outside: [u64; 6],
+    pub outside: [u64; 7],
     pub differ: u64,
+    // of those inside, in tables with equal entries in a row
+    pub runs: u64,
 }
 
 impl Tally {
@@ -30,6 +32,7 @@ impl Tally {
     pub fn print(&self, name: &str, seconds: f64) {
         let cases: u64 = self.inside.iter().sum();
         println!("{name}: {cases} inside the domain, {} differ, {seconds:.1} s", self.differ);
+        println!("  in tables with equal entries in a row: {}", self.runs);
         let numbers: Vec<_> = (0..15).filter(|n| self.inside[*n] > 0).map(|n| format!("{n}: {}", self.inside[n])).collect();
         println!("  by number: {}", numbers.join(", "));
         for (count, (_, rule)) in self.outside.iter().zip(RULES) {

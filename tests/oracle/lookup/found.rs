@@ -1,5 +1,5 @@
 // Whole lookups that are answered: options, positions, what is and isn't read of the list; and unknown addresses.
-use crate::out::{Out, Said};
+use crate::out::{rust, Out, Said};
 use crate::shape::*;
 
 const TOP: u64 = u64::MAX;
@@ -227,22 +227,87 @@ fn ruled(o: &mut Out) {
             o.whole(addr, opts, 64, &plain_answer(&s, symbol, size, name));
         }
     }
-    o.remark("outside the domain, by RULES: of equal entries the last; falling tables where one entry fits");
-    let (main, outer, leaf) = (data(9, MAIN, &[]), data(0x20, OUTER, &[]), data(0, LEAF, &[]));
-    let equal = many(2, 0x1000, vec![(5, main.clone()), (5, outer.clone()), (9, outer.clone()), (9, leaf.clone())]);
-    let falling = many(1, 0x1000, vec![(1, main), (9, outer), (5, leaf)]);
+    equal_and_falling(o);
+}
+
+// Offsets of entries, with what each says: size and name. Each entry has its own name.
+fn named(width: u8, base: u64, entries: &[(u64, u32, (u32, u64))]) -> Shape {
+    let data = |size, name: (u32, u64)| data(size, name.0, &[end()]);
+    many(width, base, entries.iter().map(|(offset, size, name)| (*offset, data(*size, *name))).collect())
+}
+
+const M: (u32, u64) = (MAIN, 4);
+const O: (u32, u64) = (OUTER, 5);
+const I: (u32, u64) = (INNER, 5);
+const L: (u32, u64) = (LEAF, 4);
+
+fn equal_and_falling(o: &mut Out) {
+    let behind = named(2, 0x1000, &[(1, 4, M), (5, 9, O), (5, 0x20, I), (9, 0x20, L), (9, 0, M)]);
+    let few = named(4, 0x1000, &[(1, 0, M), (5, 2, O), (5, 0, I), (5, 0x20, L)]);
+    let open = named(8, 0x1000, &[(1, 0, M), (5, 0, O), (5, 2, I)]);
+    let front = named(2, 0x1000, &[(5, 9, M), (5, 0x20, O), (9, 0x20, O), (9, 0, L)]);
+    let short = named(1, 0x1000, &[(5, 2, M), (5, 0x20, O), (5, 0, I)]);
+    let whole = named(1, 0x1000, &[(5, 0, M), (5, 2, O)]);
+    o.remark(
+        "of equal entries the first alone is asked, at its address and past it, by RULES and the unchanged Rust alike",
+    );
     for (s, addr, symbol, size, name) in [
-        (&equal, 0x1005, 0x1005, 0x20, (OUTER, 5)),
-        (&equal, 0x1008, 0x1005, 0x20, (OUTER, 5)),
-        (&equal, 0x1009, 0x1009, 0, (LEAF, 4)),
-        (&equal, TOP, 0x1009, 0, (LEAF, 4)),
-        (&falling, 0x1009, 0x1005, 0, (LEAF, 4)),
-        (&falling, 0x1004, 0x1001, 9, (MAIN, 4)),
+        (&behind, 0x1004, 0x1001, 4, M),
+        (&behind, 0x1005, 0x1005, 9, O),
+        (&behind, 0x1008, 0x1005, 9, O),
+        (&behind, 0x1009, 0x1009, 0x20, L),
+        (&behind, 0x1028, 0x1009, 0x20, L),
+        (&few, 0x1005, 0x1005, 2, O),
+        (&few, 0x1006, 0x1005, 2, O),
+        (&open, 0x1005, 0x1005, 0, O),
+        (&open, 0x1006, 0x1005, 0, O),
+        (&open, TOP, 0x1005, 0, O),
+        (&front, 0x1005, 0x1005, 9, M),
+        (&front, 0x1009, 0x1009, 0x20, O),
+        (&short, 0x1005, 0x1005, 2, M),
+        (&whole, 0x1005, 0x1005, 0, M),
+    ] {
+        o.file(&write(s));
+        for (opts, room) in [(0, 0), (3, 64)] {
+            assert_eq!(rust(&o.now, addr, opts), plain_answer(s, symbol, size, name), "at {addr:x}");
+            o.ask(0, addr, opts, room);
+        }
+    }
+    for (s, addr) in
+        [(&behind, 0x1000), (&behind, 0x1029), (&few, 0x1007), (&few, 0x1008), (&few, TOP), (&front, 0x1004)]
+    {
+        o.file(&write(s));
+        o.ask(1, addr, 0, 0);
+        o.ask(1, addr, 3, 64);
+    }
+    o.remark("outside the domain, by RULES: the same past the address of a run that the table begins with");
+    for (s, addr, symbol, size, name) in [
+        (&front, 0x1008, 0x1005, 9, M),
+        (&short, 0x1006, 0x1005, 2, M),
+        (&whole, 0x1006, 0x1005, 0, M),
+        (&whole, TOP, 0x1005, 0, M),
     ] {
         o.file(&write(s));
         o.whole(addr, 0, 0, &plain_answer(s, symbol, size, name));
         o.whole(addr, 3, 64, &plain_answer(s, symbol, size, name));
     }
-    o.file(&write(&equal));
-    o.rule(1, 0x1004, 3, 64);
+    o.file(&write(&short));
+    o.rule(1, 0x1007, 0, 0);
+    o.rule(1, TOP, 3, 64);
+    let falling = named(1, 0x1000, &[(1, 9, M), (9, 0x20, O), (5, 0, L)]);
+    let twice = named(1, 0x1000, &[(5, 9, M), (5, 0, O), (3, 0, I), (5, 4, L), (5, 0, O)]);
+    o.remark("outside the domain, by RULES: falling tables where one entry is allowed");
+    for (s, addr, symbol, size, name) in [
+        (&falling, 0x1009, 0x1005, 0, L),
+        (&falling, 0x1004, 0x1001, 9, M),
+        (&twice, 0x1005, 0x1005, 4, L),
+        (&twice, 0x1008, 0x1005, 4, L),
+    ] {
+        o.file(&write(s));
+        o.whole(addr, 0, 0, &plain_answer(s, symbol, size, name));
+        o.whole(addr, 3, 64, &plain_answer(s, symbol, size, name));
+    }
+    o.file(&write(&twice));
+    o.rule(1, 0x1003, 0, 0);
+    o.rule(1, 0x1009, 3, 64);
 }

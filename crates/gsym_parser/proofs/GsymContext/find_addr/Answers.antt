@@ -5,11 +5,6 @@ use Rattle.gsym_parser.specs.View.{view}
 use Rattle.gsym_parser.proofs.Finding as law
 use Rattle.gsym_parser.proofs.GsymContext.find_addr.Goals as goal
 
-pub returns-in_err-index-clause-chosen : goal.returns-in_err-index-clause-chosen
-returns-in_err-index-clause-chosen c =
-    rw c.from_residual.ensures
-    (law.none_right (view c.args.self.now) c.args.addr (sym c.in_err-index.was ∙ c.search.ensures))
-
 pub returns-in_err-index-clause-only : goal.returns-in_err-index-clause-only
 returns-in_err-index-clause-only c =
     rw c.from_residual.ensures
@@ -36,17 +31,17 @@ overflow_add-result c =
           (view c.args.self.now) c.args.addr _ _ (sym c.in_ok-index.was ∙ c.search.ensures),
     )
 
-pub returns-clause-chosen : goal.returns-clause-chosen
-returns-clause-chosen c =
-    law.some_right (view c.args.self.now) c.args.addr _ _ (sym c.in_ok-index.was ∙ c.search.ensures)
+pub returns-clause-allowed : goal.returns-clause-allowed
+returns-clause-allowed c =
+    law.search_allowed (view c.args.self.now) c.args.addr _ _ (sym c.in_ok-index.was ∙ c.search.ensures)
 
 pub returns-clause-below : goal.returns-clause-below
 returns-clause-below c =
     law.search_below (view c.args.self.now) c.args.addr _ _ (sym c.in_ok-index.was ∙ c.search.ensures)
 
-pub returns-clause-last : goal.returns-clause-last
-returns-clause-last c =
-    law.search_last (view c.args.self.now) c.args.addr _ _ (sym c.in_ok-index.was ∙ c.search.ensures)
+pub returns-clause-first : goal.returns-clause-first
+returns-clause-first c =
+    law.search_first (view c.args.self.now) c.args.addr _ _ (sym c.in_ok-index.was ∙ c.search.ensures)
 
 pub returns-clause-only : goal.returns-clause-only
 returns-clause-only c = law.some_only (view c.args.self.now) c.args.addr _ _ (sym c.in_ok-index.was ∙ c.search.ensures)

@@ -19,7 +19,7 @@ use Rattle.gsym_inline.specs.Walk.{walk_node}
 use Rattle.gsym_inline.specs.Block.{block_of}
 use Rattle.gsym_parser.specs.Numbers.{numbers_of}
 use Rattle.gsym_parser.specs.Header.{tables_of, opened_of}
-use Rattle.gsym_parser.specs.Search.{halving, chosen_from, find_in, entries, entries_of, find_of}
+use Rattle.gsym_parser.specs.Search.{halving, halved_from, run_start, find_in, entries, entries_of, find_of}
 use Rattle.gsym_parser.specs.Entries.{symbol_at, offset_at, info_in, info_at, covered_by, file_at}
 use Rattle.gsym_parser.specs.Items.{sized_item, item_front, items_within, items_of}
 use Rattle.gsym_resolver.specs.Known.{read_items}
@@ -33,8 +33,8 @@ unfolding byte_front u16_front u32_front u64_front u8_at u16_at u32_at u64_at di
     advance_line range_of special_of step_of within run_of row_among table_of line_row int_wrap in_range any_in
     first_off range_at ranges_at rest_at past_ranges rest_head node_head head_at judged_range judged_ranges judged_rest
     judged_node judged_at past_node then_skip skip_within skip_list with_frame open_node closed_node walk_from then_walk
-    walk_within walk_list walk_node block_of numbers_of tables_of opened_of halving chosen_from find_in entries
-    entries_of find_of symbol_at offset_at info_in info_at covered_by file_at sized_item item_front items_within
+    walk_within walk_list walk_node block_of numbers_of tables_of opened_of halving halved_from run_start find_in
+    entries entries_of find_of symbol_at offset_at info_in info_at covered_by file_at sized_item item_front items_within
     items_of read_items landing_at position_at call_at calls_at moved_up with_frames with_row with_code lookup_of
 returns c = record {
   innermost = refl;

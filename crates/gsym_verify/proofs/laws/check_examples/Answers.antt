@@ -66,5 +66,5 @@ returns c = record {
   not_closed = refl;
   lower_entry = refl;
   sum_before_name = refl;
-  rising_before_information = refl;
+  fall_before_information = refl;
 }
