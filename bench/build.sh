@@ -1,9 +1,9 @@
 #!/bin/sh
-# Builds the bench's programs: `build.sh OUT [TREE]` puts line_whole, line_one, inline_whole, inline_one, lookup, check
-# and stack into OUT, and there the corpus' kernel file as vmlinux612.gsym. The libraries are those of this tree, which
-# are proved and built first, or of another checkout TREE, where they must have been built. Needs rustc, the sources of
-# blazesym 0.2.6 (BLAZESYM_SRC, see tests/oracle/README.md), the corpus with vmlinux612.gsym.xz (GSYM_CORPUS), and xz;
-# answers 3 and says so where they are not there.
+# Builds the bench's programs: `build.sh OUT [TREE]` puts line_whole, line_one, inline_whole, inline_one, numbers_whole,
+# numbers_one, lookup, check and stack into OUT, and there the corpus' kernel file as vmlinux612.gsym. The libraries are
+# those of this tree, which are proved and built first, or of another checkout TREE, where they must have been built.
+# Needs rustc, the sources of blazesym 0.2.6 (BLAZESYM_SRC, see tests/oracle/README.md), the corpus with
+# vmlinux612.gsym.xz (GSYM_CORPUS), and xz; answers 3 and says so where they are not there.
 set -eu
 cd "$(dirname "$0")/.."
 out=${1:?the folder to build in}
@@ -21,7 +21,7 @@ for build in whole one; do
     flags=
     [ $build = whole ] || flags="-C codegen-units=1 --cfg one_caller"
     ORACLE_FLAGS=$flags sh tests/oracle/build.sh "$out/$build"
-    for kind in line inline; do
+    for kind in line inline numbers; do
         rustc --edition 2021 -C opt-level=3 -L "$out/$build" --extern "oracle=$out/$build/liboracle.rlib" \
             -L "$out" -l static=reader_c -o "$out/${kind}_$build" "bench/$kind.rs"
     done

@@ -1,14 +1,14 @@
 -- What `unsigned_at` answers, from what it has read: one law for each way out.
 -- Assumes nothing.
 use Rattle.std.proofs.Common.{◌≡◌, ℕ, ◌+◌, ◌*◌, ◌^◌, ◌<◌, ◌≤◌, ◌⊎◌, List, length, get_or, drop, ap, ⊎_elim}
-use Rattle.std.proofs.Common.{mul-le-mul_right, arith, le-ltb, lt-ltb, Ok, Err}
+use Rattle.std.proofs.Common.{◌-◌, ◌∙◌, inr, mul-le-mul_right, arith, le-ltb, lt-ltb, Ok, Err}
 use Rattle.gsym_leb128.specs.declared.Cause.TheVariants.{Short, Wide}
 use Rattle.gsym_leb128.specs.Leb.{digits, unsigned}
 use Rattle.gsym_leb128.specs.Answers.{unsigned_at}
 use Rattle.gsym_leb128.proofs.Ends.{Ends}
 use Rattle.std.proofs.lemmas.Bool.{cases_lt}
 use Rattle.gsym_leb128.proofs.Digits.{weight-le, weight-early, digit_room}
-use Rattle.gsym_leb128.proofs.Turn.{Sofar, tenth, used-up, ends, too_long}
+use Rattle.gsym_leb128.proofs.Turn.{Sofar, begin, tenth, used-up, ends, too_long, after-one}
 
 -- ---- by how the number ends
 
@@ -66,3 +66,16 @@ module _ (s : List ℕ) (at low w i : ℕ) (h : Sofar s at low w i) where
         (λ (p : get_or s i 0 < 128). plain-wide (ends s at low w i h l p) (tenth s at low w i h q) t)
         (λ (p : 128 ≤ get_or s i 0). plain-long s at (too_long s at low w i h l p (tenth s at low w i h q)))
         (cases_lt (get_or s i 0) 128)
+
+-- ---- numbers of one byte and of two
+
+module _ (s : List ℕ) (at : ℕ) (l : at < length s) where
+  pub plain-one : get_or s at 0 < 128 → Ok (get_or s at 0, at + 1) ≡ unsigned_at s at
+  plain-one t =
+      let v : get_or s at 0 ≡ 0 + get_or s at 0 * 1 = omega arith in
+      ap (λ x. Ok (x, at + 1)) v ∙ (plain-last s at 0 1 at (begin s at) l t (inr (omega arith))).1
+
+  pub plain-two :
+      get_or s at 0 < 256 → 128 ≤ get_or s at 0 → at + 1 < length s → get_or s (at + 1) 0 < 128 →
+      Ok (get_or s at 0 - 128 + get_or s (at + 1) 0 * 128, at + 1 + 1) ≡ unsigned_at s at
+  plain-two z f m t = (plain-last s at _ _ (at + 1) (after-one s at l z f) m t (inr (omega arith))).1

@@ -13,7 +13,7 @@ use Rattle.gsym_leb128.specs.Answers.{signed_at}
 use Rattle.gsym_leb128.proofs.Ends.{Ends}
 use Rattle.std.proofs.lemmas.Bool.{cases_lt}
 use Rattle.gsym_leb128.proofs.Digits.{weight-le, weight-early, digit_room}
-use Rattle.gsym_leb128.proofs.Turn.{Sofar, tenth, used-up, ends, too_long}
+use Rattle.gsym_leb128.proofs.Turn.{Sofar, begin, tenth, used-up, ends, too_long, after-one}
 
 -- ---- n groups with the digits x: of either sign, and in range or not
 
@@ -234,3 +234,17 @@ module _ (s : List ℕ) (at low w i : ℕ) (h : Sofar s at low w i) where
           sign-wide (ends s at low w i h l p) (tenth s at low w i h q) (omega (arith, n)) (omega (arith, m)))
           (λ (p : 128 ≤ get_or s i 0). sign-long s at (too_long s at low w i h l p (tenth s at low w i h q)))
           (cases_lt (get_or s i 0) 128)
+
+-- ---- numbers of one byte and of two, whose last seven bits count from -64 on
+
+module _ (s : List ℕ) (at : ℕ) (l : at < length s) (bits : ℕ) (f : bits < 2 ^ 64) where
+  pub signed-one :
+      get_or s at 0 < 128 → (bits + 64) % 2 ^ 64 ≡ (get_or s at 0 + 64) % 128 →
+      Ok (to_z w64 bits, at + 1) ≡ signed_at s at
+  signed-one t r = (signed-last s at 0 1 at (begin s at) l (omega arith) t).2 bits f (omega (arith, r))
+
+  pub signed-two :
+      get_or s at 0 < 256 → 128 ≤ get_or s at 0 → at + 1 < length s → get_or s (at + 1) 0 < 128 →
+      (bits + 64 * 128) % 2 ^ 64 ≡ get_or s at 0 - 128 + (get_or s (at + 1) 0 + 64) % 128 * 128 →
+      Ok (to_z w64 bits, at + 1 + 1) ≡ signed_at s at
+  signed-two z g m t r = (signed-last s at _ _ (at + 1) (after-one s at l z g) m (omega arith) t).2 bits f r

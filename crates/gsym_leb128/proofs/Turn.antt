@@ -1,4 +1,4 @@
--- A loop over the bytes of a number: what it has read, one more byte, and its ways out.
+-- A loop over the bytes of a number: what it has read, one more byte, its ways out, and the first two bytes before it.
 -- Assumes nothing.
 use Rattle.std.proofs.Common.{◌≡◌, ℕ, suc, ◌+◌, ◌-◌, ◌*◌, ◌^◌, ◌<◌, ◌≤◌, List, ◌∷◌, length, get_or, drop, refl, ap, ◌∙◌}
 use Rattle.std.proofs.Common.{mul_assoc, add-mul, pow-suc, add-one, arith, drop_of_length-le, drop-cons, Result, Ok}
@@ -123,3 +123,23 @@ module _ (s : List ℕ) (at low w i : ℕ) (h : Sofar s at low w i) where
           × (w * 128 ≤ 2 ^ 63)
           × Sofar s at (low + (get_or s i 0 - 128) * w) (w * 128) (i + 1)
       goes_on = (omega (arith, room, early.1), omega (arith, early.1), more-read)
+
+-- ---- the first two bytes, where they ask for another
+
+-- what is read so far, by other names
+pub read-as :
+    {s : List ℕ} {at low w i low' w' i' : ℕ} → low' ≡ low → w' ≡ w → i' ≡ i → Sofar s at low w i → Sofar s at low' w' i'
+read-as e f g h = rw (e, f, g) h
+
+module _ (s : List ℕ) (at : ℕ) (l : at < length s) (z : get_or s at 0 < 256) (t : 128 ≤ get_or s at 0) where
+  pub after-one : Sofar s at (get_or s at 0 - 128) 128 (at + 1)
+  after-one =
+      read-as (omega arith) (omega arith) (omega arith)
+      (goes_on s at 0 1 at (begin s at) l z t (λ e. omega (arith, e))).2
+
+  pub after-two :
+      at + 1 < length s → get_or s (at + 1) 0 < 256 → 128 ≤ get_or s (at + 1) 0 →
+      Sofar s at (get_or s at 0 - 128 + (get_or s (at + 1) 0 - 128) * 128) 16384 (at + 1 + 1)
+  after-two m y u =
+      read-as (omega arith) (omega arith) (omega arith)
+      (goes_on s at _ _ (at + 1) after-one m y u (λ e. omega (arith, e))).2

@@ -15,6 +15,9 @@ pub enum Cause {
     Wide,
 }
 
+// From this on a byte asks for another.
+const ANOTHER: u64 = 128;
+
 // The weight of the tenth byte, 2^63.
 const TENTH: u64 = 0x8000_0000_0000_0000;
 
@@ -29,19 +32,33 @@ pub fn unsigned_at(s: &[u8], at: usize) -> Result<(u64, usize), Cause>
     ensures past { IfOk result (λ read. at < read.1) }
     ensures short { (result ≡ Err Cause.Short) ↔ EndsEarly (drop at s.now) }
 {
-    // The value of the bytes passed, and the weight of the next one, which counts them. The loop has the first nine:
-    // with both bounds in one test it is compiled small, and into each caller.
+    // The value of the bytes passed, and the weight of the next one, which counts them.
     let mut sum: u64 = 0;
     let mut unit: u64 = 1;
     let mut i = at;
+    // Nearly all numbers have one byte or two, and end here (docs/DECISIONS.md, D50). Bytes become numbers by `as`:
+    // with `u64::from` the proofs didn't close.
+    if i < s.len() {
+        let first = s[i] as u64;
+        if first < ANOTHER {
+            return Ok((first, i + 1));
+        }
+        (sum, unit, i) = (first - ANOTHER, 128, i + 1);
+        if i < s.len() {
+            let second = s[i] as u64;
+            if second < ANOTHER {
+                return Ok((sum + second * 128, i + 1));
+            }
+            (sum, unit, i) = (sum + (second - ANOTHER) * 128, 128 * 128, i + 1);
+        }
+    }
+    // Up to the ninth byte: with both bounds in one test the loop is compiled small, and into each caller.
     while i < s.len() && unit < TENTH {
         let b = s[i] as u64;
-        if b < 128 {
-            let value = sum + b * unit;
-            let after = i + 1;
-            return Ok((value, after));
+        if b < ANOTHER {
+            return Ok((sum + b * unit, i + 1));
         }
-        sum = sum + (b - 128) * unit;
+        sum = sum + (b - ANOTHER) * unit;
         unit = unit * 128;
         i = i + 1;
     }
@@ -50,9 +67,7 @@ pub fn unsigned_at(s: &[u8], at: usize) -> Result<(u64, usize), Cause>
     }
     let tenth = s[i] as u64;
     if tenth <= LARGEST_TENTH {
-        let value = sum + tenth * unit;
-        let end = i + 1;
-        return Ok((value, end));
+        return Ok((sum + tenth * unit, i + 1));
     }
     Err(Cause::Wide)
 }
@@ -65,40 +80,44 @@ pub fn signed_at(s: &[u8], at: usize) -> Result<(i64, usize), Cause>
     ensures past { IfOk result (λ read. at < read.1) }
     ensures short { (result ≡ Err Cause.Short) ↔ EndsEarly (drop at s.now) }
 {
-    // The value of the bytes passed, and the weight of the next one, as in `unsigned_at`. A loop that both share stays
-    // a call, and costs 1.38 of the line run's instructions (DECISIONS, D5).
+    // As in `unsigned_at`; a loop that both share stays a call (docs/DECISIONS.md, D5). The bit 64 of the last byte is
+    // the sign: its seven bits count from -64 to 63. It is told by arithmetic: a branch on it is hard to foresee.
     let mut low: u64 = 0;
     let mut weight: u64 = 1;
     let mut i = at;
-    while i < s.len() && weight < TENTH {
-        // By `as`, here and in `unsigned_at`: with `u64::from` this function's proof didn't close.
-        let b = s[i] as u64;
-        let next = i + 1;
-        if b < 128 {
-            // The bit 64 of the last byte is the sign: its seven bits count from -64 to 63. Told by arithmetic, since a
-            // branch on the sign is hard to foresee.
-            let seven = (b + 64) % 128;
-            let above = low + seven * weight;
-            let bits = above.wrapping_sub(64 * weight);
-            return Ok((bits.cast_signed(), next));
+    if i < s.len() {
+        let first_byte = s[i] as u64;
+        if first_byte < ANOTHER {
+            let above = (first_byte + 64) % 128;
+            return Ok((above.wrapping_sub(64).cast_signed(), i + 1));
         }
-        low = low + (b - 128) * weight;
+        (low, weight, i) = (first_byte - ANOTHER, 128, i + 1);
+        if i < s.len() {
+            let second_byte = s[i] as u64;
+            if second_byte < ANOTHER {
+                let above = low + (second_byte + 64) % 128 * 128;
+                return Ok((above.wrapping_sub(64 * 128).cast_signed(), i + 1));
+            }
+            (low, weight, i) = (low + (second_byte - ANOTHER) * 128, 128 * 128, i + 1);
+        }
+    }
+    while i < s.len() && weight < TENTH {
+        let b = s[i] as u64;
+        if b < ANOTHER {
+            let above = low + (b + 64) % 128 * weight;
+            return Ok((above.wrapping_sub(64 * weight).cast_signed(), i + 1));
+        }
+        low = low + (b - ANOTHER) * weight;
         weight = weight * 128;
-        i = next;
+        i = i + 1;
     }
     if i < s.len() {
         // Nine bytes have 63 bits, so a tenth one adds the sign alone: all its bits are clear, or all are set.
-        let tenth = s[i];
-        if tenth == 0 {
-            let end = i + 1;
-            return Ok((low.cast_signed(), end));
-        }
-        if tenth == 127 {
-            let bits = low + TENTH;
-            let end = i + 1;
-            return Ok((bits.cast_signed(), end));
-        }
-        return Err(Cause::Wide);
+        return match s[i] {
+            0 => Ok((low.cast_signed(), i + 1)),
+            127 => Ok(((low + TENTH).cast_signed(), i + 1)),
+            _ => Err(Cause::Wide),
+        };
     }
     Err(Cause::Short)
 }

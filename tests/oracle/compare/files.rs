@@ -40,7 +40,10 @@ fn sleb(out: &mut Vec<u8>, mut v: i64) {
 fn line_block(r: &mut Random, size: u64) -> Vec<u8> {
     let mut out = Vec::new();
     let wild = r.one_in(16);
-    let (min, max) = if wild { (r.any() as i64, r.any() as i64) } else { (-(r.below(9) as i64), r.below(16) as i64) };
+    // one byte each or two, where the range stays below 256
+    let most = r.pick(&[9, 9, 9, 120]);
+    let plain = (-(r.below(most) as i64), r.below(most + 7) as i64);
+    let (min, max) = if wild { (r.any() as i64, r.any() as i64) } else { plain };
     sleb(&mut out, min);
     sleb(&mut out, max);
     let first = if wild { r.any() } else { 1 + r.below(200) };
@@ -59,7 +62,9 @@ fn line_block(r: &mut Random, size: u64) -> Vec<u8> {
             }
             3 => {
                 out.push(3);
-                let by = if r.one_in(20) { r.any() as i64 } else { r.below(60) as i64 - 30 };
+                // of one byte, two or three, either way
+                let most = r.pick(&[30, 30, 2_000, 2_000, 200_000]);
+                let by = if r.one_in(20) { r.any() as i64 } else { r.below(2 * most) as i64 - most as i64 };
                 sleb(&mut out, by);
             }
             _ => out.push(4 + r.below(252) as u8),
