@@ -5,10 +5,11 @@ use Rattle.std.proofs.Common.{◌-◌, ◌∙◌, inr, mul-le-mul_right, arith, 
 use Rattle.gsym_leb128.specs.declared.Cause.TheVariants.{Short, Wide}
 use Rattle.gsym_leb128.specs.Leb.{digits, unsigned}
 use Rattle.gsym_leb128.specs.Answers.{unsigned_at}
+use Rattle.gsym_leb128.specs.Begun.{Begun}
 use Rattle.gsym_leb128.proofs.Ends.{Ends}
 use Rattle.std.proofs.lemmas.Bool.{cases_lt}
 use Rattle.gsym_leb128.proofs.Digits.{weight-le, weight-early, digit_room}
-use Rattle.gsym_leb128.proofs.Turn.{Sofar, begin, tenth, used-up, ends, too_long, after-one}
+use Rattle.gsym_leb128.proofs.Turn.{begin, tenth, used-up, ends, too_long, after-one}
 
 -- ---- by how the number ends
 
@@ -47,7 +48,7 @@ module _ {s : List ℕ} {at low w last next : ℕ} (h : Ends s at low w last nex
 
 -- ---- the ways out of the loop
 
-module _ (s : List ℕ) (at low w i : ℕ) (h : Sofar s at low w i) where
+module _ (s : List ℕ) (at low w i : ℕ) (h : Begun s at low w i) where
   pub plain-ended : length s ≤ i → Err Short ≡ unsigned_at s at
   plain-ended l = plain-short s at (used-up s at low w i h l)
 

@@ -10,10 +10,11 @@ use mir.ValLaws.{to_z_pos, to_z-neg, to_z-of_z}
 use Rattle.gsym_reads.specs.Steps.{◌>>◌, need}
 use Rattle.gsym_leb128.specs.Leb.{digits, complement, signed}
 use Rattle.gsym_leb128.specs.Answers.{signed_at}
+use Rattle.gsym_leb128.specs.Begun.{Begun}
 use Rattle.gsym_leb128.proofs.Ends.{Ends}
 use Rattle.std.proofs.lemmas.Bool.{cases_lt}
 use Rattle.gsym_leb128.proofs.Digits.{weight-le, weight-early, digit_room}
-use Rattle.gsym_leb128.proofs.Turn.{Sofar, begin, tenth, used-up, ends, too_long, after-one}
+use Rattle.gsym_leb128.proofs.Turn.{begin, tenth, used-up, ends, too_long, after-one}
 
 -- ---- n groups with the digits x: of either sign, and in range or not
 
@@ -144,7 +145,7 @@ module _ {s : List ℕ} {at low w last next : ℕ} (h : Ends s at low w last nex
 
 -- ---- the ways out of the loop
 
-module _ (s : List ℕ) (at low w i : ℕ) (h : Sofar s at low w i) where
+module _ (s : List ℕ) (at low w i : ℕ) (h : Begun s at low w i) where
   pub signed-ended : length s ≤ i → Err Short ≡ signed_at s at
   signed-ended l = sign-short s at (used-up s at low w i h l)
 

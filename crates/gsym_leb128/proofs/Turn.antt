@@ -3,10 +3,10 @@
 use Rattle.std.proofs.Common.{◌≡◌, ℕ, suc, ◌+◌, ◌-◌, ◌*◌, ◌^◌, ◌<◌, ◌≤◌, List, ◌∷◌, length, get_or, drop, refl, ap, ◌∙◌}
 use Rattle.std.proofs.Common.{mul_assoc, add-mul, pow-suc, add-one, arith, drop_of_length-le, drop-cons, Result, Ok}
 use Rattle.std.proofs.Common.{Err}
-use Rattle.gsym_reads.specs.Steps.{◌>>=◌}
 use Rattle.gsym_leb128.specs.declared.Cause.{Cause}
 use Rattle.gsym_leb128.specs.declared.Cause.TheVariants.{Short, Wide}
 use Rattle.gsym_leb128.specs.Leb.{digits}
+use Rattle.gsym_leb128.specs.Begun.{onto, Begun}
 use Rattle.gsym_leb128.proofs.Ends.{Ends}
 use Rattle.gsym_leb128.proofs.Digits.{
   more,
@@ -19,12 +19,6 @@ use Rattle.gsym_leb128.proofs.Digits.{
   weight-early,
   digit_room,
 }
-
--- n bytes with the value `low` before digits that count `weight` times
-abbrev pub onto : ℕ → ℕ → ℕ → Result (ℕ × ℕ) Cause → Result (ℕ × ℕ) Cause
-onto low weight n d = do
-  (v, m) ← d
-  Ok (low + v * weight, n + m)
 
 onto-none : (d : Result (ℕ × ℕ) Cause) → d ≡ onto 0 1 0 d
 onto-none (Ok (v, m)) = let e : v ≡ 0 + v * 1 = omega arith in let f : m ≡ 0 + m = omega arith in cc
@@ -40,16 +34,7 @@ onto-more low w n b (Ok (v, m)) =
     rw (p, q)
 onto-more low w n b (Err e) = refl
 
--- the bytes from `at` to `i`, each of which asks for another
-pub record Sofar (s : List ℕ) (at low weight i : ℕ) : Type 0 where
-  pub passed : ℕ
-  pub few : passed ≤ 9
-  pub place : i ≡ at + passed
-  pub power : weight ≡ 128 ^ passed
-  pub small : low < weight
-  pub rest : digits 10 (drop at s) ≡ onto low weight passed (digits (suc (9 - passed)) (drop i s))
-
-pub begin : (s : List ℕ) (at : ℕ) → Sofar s at 0 1 at
+pub begin : (s : List ℕ) (at : ℕ) → Begun s at 0 1 at
 begin s at =
     record {
       passed = 0;
@@ -60,7 +45,7 @@ begin s at =
       rest = onto-none (digits 10 (drop at s));
     }
 
-module _ (s : List ℕ) (at low w i : ℕ) (h : Sofar s at low w i) where
+module _ (s : List ℕ) (at low w i : ℕ) (h : Begun s at low w i) where
   -- only the tenth byte counts so much
   pub tenth : 2 ^ 63 ≤ w → w ≡ 2 ^ 63
   tenth q = omega (arith, weight-le h.passed w h.power 9 h.few)
@@ -101,7 +86,7 @@ module _ (s : List ℕ) (at low w i : ℕ) (h : Sofar s at low w i) where
       room : low + (get_or s i 0 - 128) * w < 128 * w
       room = digit_room (get_or s i 0 - 128) w low 128 (omega arith) h.small
 
-      more-read : Sofar s at (low + (get_or s i 0 - 128) * w) (w * 128) (i + 1)
+      more-read : Begun s at (low + (get_or s i 0 - 128) * w) (w * 128) (i + 1)
       more-read =
           let b = get_or s i 0 in
           let d = drop (i + 1) s in
@@ -121,25 +106,25 @@ module _ (s : List ℕ) (at low w i : ℕ) (h : Sofar s at low w i) where
       pub goes_on :
           (low + (get_or s i 0 - 128) * w < 2 ^ 63)
           × (w * 128 ≤ 2 ^ 63)
-          × Sofar s at (low + (get_or s i 0 - 128) * w) (w * 128) (i + 1)
+          × Begun s at (low + (get_or s i 0 - 128) * w) (w * 128) (i + 1)
       goes_on = (omega (arith, room, early.1), omega (arith, early.1), more-read)
 
 -- ---- the first two bytes, where they ask for another
 
 -- what is read so far, by other names
 pub read-as :
-    {s : List ℕ} {at low w i low' w' i' : ℕ} → low' ≡ low → w' ≡ w → i' ≡ i → Sofar s at low w i → Sofar s at low' w' i'
+    {s : List ℕ} {at low w i low' w' i' : ℕ} → low' ≡ low → w' ≡ w → i' ≡ i → Begun s at low w i → Begun s at low' w' i'
 read-as e f g h = rw (e, f, g) h
 
 module _ (s : List ℕ) (at : ℕ) (l : at < length s) (z : get_or s at 0 < 256) (t : 128 ≤ get_or s at 0) where
-  pub after-one : Sofar s at (get_or s at 0 - 128) 128 (at + 1)
+  pub after-one : Begun s at (get_or s at 0 - 128) 128 (at + 1)
   after-one =
       read-as (omega arith) (omega arith) (omega arith)
       (goes_on s at 0 1 at (begin s at) l z t (λ e. omega (arith, e))).2
 
   pub after-two :
       at + 1 < length s → get_or s (at + 1) 0 < 256 → 128 ≤ get_or s (at + 1) 0 →
-      Sofar s at (get_or s at 0 - 128 + (get_or s (at + 1) 0 - 128) * 128) 16384 (at + 1 + 1)
+      Begun s at (get_or s at 0 - 128 + (get_or s (at + 1) 0 - 128) * 128) 16384 (at + 1 + 1)
   after-two m y u =
       read-as (omega arith) (omega arith) (omega arith)
       (goes_on s at _ _ (at + 1) after-one m y u (λ e. omega (arith, e))).2

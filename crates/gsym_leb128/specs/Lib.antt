@@ -1,3 +1,4 @@
 pub mod Leb
 pub mod Answers
 pub mod Examples
+pub mod Begun

@@ -5,6 +5,7 @@
 ghost use Rattle.std.specs.Prelude.{◌≡◌, ◌<◌, ◌↔◌, drop, IfOk, Err};
 ghost use Rattle.gsym_reads.specs.Fronts.{ReadsTo};
 ghost use Rattle.gsym_leb128.specs.Answers.{unsigned_at, signed_at, unsigned_front, signed_front, EndsEarly};
+ghost use Rattle.gsym_leb128.specs.Begun.{Begun};
 
 /// Why a number doesn't read (RULES, "LEB128").
 #[derive(Clone, Copy, Debug, PartialEq, Eq, PartialOrd, Ord, Hash)]
@@ -52,6 +53,21 @@ pub fn unsigned_at(s: &[u8], at: usize) -> Result<(u64, usize), Cause>
             (sum, unit, i) = (sum + (second - ANOTHER) * 128, 128 * 128, i + 1);
         }
     }
+    rest_of_unsigned(s, at, sum, unit, i)
+}
+
+// The unsigned number at `at` from its byte at `i` on, which counts `unit` times; those before it ask for others and
+// come to `sum`. With 0, 1 and `at` it is the whole number. `at` is there for the promise.
+fn rest_of_unsigned(
+    s: &[u8],
+    at: usize,
+    mut sum: u64,
+    mut unit: u64,
+    mut i: usize,
+) -> Result<(u64, usize), Cause>
+    requires { Begun s.now at sum unit i }
+    ensures { result ≡ unsigned_at s.now at }
+{
     // Up to the ninth byte: with both bounds in one test the loop is compiled small, and into each caller.
     while i < s.len() && unit < TENTH {
         let b = s[i] as u64;
@@ -101,6 +117,21 @@ pub fn signed_at(s: &[u8], at: usize) -> Result<(i64, usize), Cause>
             (low, weight, i) = (low + (second_byte - ANOTHER) * 128, 128 * 128, i + 1);
         }
     }
+    rest_of_signed(s, at, low, weight, i)
+}
+
+// The signed number at `at` from its byte at `i` on, which counts `weight` times; those before it ask for others and
+// come to `low`.
+fn rest_of_signed(
+    s: &[u8],
+    at: usize,
+    mut low: u64,
+    mut weight: u64,
+    mut i: usize,
+) -> Result<(i64, usize), Cause>
+    requires { Begun s.now at low weight i }
+    ensures { result ≡ signed_at s.now at }
+{
     while i < s.len() && weight < TENTH {
         let b = s[i] as u64;
         if b < ANOTHER {
