@@ -94,12 +94,13 @@ enum {
     GSYM_UNREAD_NAME = 6,           /* the name of the symbol or of an inlined call doesn't read, or is not UTF-8 */
     GSYM_UNKNOWN_FILE = 7,          /* a file index that is not below the file count */
     GSYM_UNREAD_PATH = 8,           /* a directory or a file name doesn't read */
-    GSYM_UNREAD_LINE_HEADER = 9,    /* the header of a line table doesn't read */
-    GSYM_UNREAD_INLINE = 10,        /* an inline block doesn't read */
+    GSYM_UNREAD_LINE_HEADER = 9,    /* the header of a line table doesn't read: it is cut short */
+    GSYM_UNREAD_INLINE = 10,        /* an inline block doesn't read: it is cut short */
     GSYM_INLINE_SUM_TOO_LARGE = 11, /* an inline range starts or ends above 2^64-1 */
     GSYM_CALL_FILE_TOO_LARGE = 12,  /* a call file above 4,294,967,295 */
     GSYM_TOO_DEEP = 13,             /* inlined calls on more than 64 levels */
-    GSYM_TOO_MANY_FRAMES = 14       /* more frames than there is room for */
+    GSYM_TOO_MANY_FRAMES = 14,      /* more frames than there is room for */
+    GSYM_TOO_WIDE = 15              /* a number wider than 64 bits: from a broken producer, not a torn file */
 };
 
 /* ---- what a check finds beside refusal numbers. A later library may have more: any number but 0 is a finding ---- */
@@ -158,7 +159,7 @@ typedef struct gsym_listed {
 /* What gsym_check answers. number 0: the file passes; else what was found first. */
 typedef struct gsym_finding {
     uint32_t number;
-    uint32_t entry; /* of 5 and 6, 9 to 13, 21 to 24: the lowest faulty entry, from 0 on; else 0, which says nothing */
+    uint32_t entry; /* of 5, 6, 9 to 13, 15, 21 to 24: the lowest faulty entry, from 0 on; else 0, which says nothing */
 } gsym_finding;
 
 GSYM_ASSERT(sizeof(size_t) == 8, "a host with 64-bit sizes");
@@ -182,8 +183,9 @@ GSYM_ASSERT(sizeof(gsym_answer) == 80 && offsetof(gsym_answer, addr) == 8 && off
  * own position is where it calls frames[0]. Without GSYM_INLINING directory, file and line are those of the address
  * itself, which may lie in an inlined callee, and `name` is the symbol's all the same. Written are exactly the first
  * `count` records. A refusal writes none, nor does a lookup without both options, and what is past `count` stays.
- * Refusals: 1 to 14, the first met in the file's order. Without GSYM_CODE_INFO only 1 to 6 are, without GSYM_INLINING
- * only 1 to 9.
+ * Refusals: 1 to 15, the first met in the file's order. Without GSYM_CODE_INFO only 1 to 6 are, without GSYM_INLINING
+ * only 1 to 9 and 15. With 9 and 10 the bytes of a header or of a block end too early. 15 comes of no cut: the program
+ * that wrote the file is at fault, or what changed its bytes since.
  * Where several symbols stand at one address, as a linker that folds equal functions leaves them, the first of them in
  * the file answers, at that address and past it, and it alone: where it doesn't cover the address, that is unknown (1),
  * even if a later one would (docs/RULES.md, "Finding the entry"). The time to find it is the logarithm of the number of
@@ -198,7 +200,7 @@ gsym_answer gsym_lookup(const uint8_t *file, size_t file_len, uint64_t addr, uin
  *   symbol, addr          the symbol's address, and the one asked for
  *   frames, frames_len    a lent list of records; room is the smaller of 64 and frames_len
  * Written are the named nodes that contain the address and whose ancestors all contain it, each once, parents first, in
- * the file's order. A refusal (10 to 14) writes none, and what is past `count` stays.
+ * the file's order. A refusal (10 to 15) writes none, and what is past `count` stays.
  */
 gsym_listed gsym_block_frames(const uint8_t *block, size_t block_len, uint64_t symbol, uint64_t addr,
                               gsym_inline_frame *frames, size_t frames_len);
@@ -209,8 +211,8 @@ gsym_listed gsym_block_frames(const uint8_t *block, size_t block_len, uint64_t s
  * It passes (0) exactly if it opens; its offset size is 1, 2, 4 or 8; its address table never falls; no symbol ends
  * above 2^64-1; and of each entry the information and the name read, the address data list ends in type 0, and each
  * line table and each inline tree in it reads in full, also where a lookup would pass it over. Findings:
- *   2, 3, 4, 20                 of the tables; entry is 0
- *   5, 6, 9 to 13, 21 to 24     of the lowest faulty entry, its first fault
+ *   2, 3, 4, 20                     of the tables; entry is 0
+ *   5, 6, 9 to 13, 15, 21 to 24     of the lowest faulty entry, its first fault
  * In a file that passes a lookup without GSYM_CODE_INFO is answered, or refused with 1, at any address; one with it may
  * also be refused with 7 and 8, and with GSYM_INLINING too with 6 and 14: the file indexes, the strings of the file
  * table and the names of inlined calls are not judged, nor how many frames there are. Neither are items of other types
@@ -315,7 +317,7 @@ static inline gsym_part gsym_text_at(const uint8_t *file, size_t file_len, gsym_
     return part;
 }
 
-/* A refusal in words; a null pointer above 14. */
+/* A refusal in words; a null pointer above 15. */
 static inline const char *gsym_refusal_name(uint32_t number)
 {
     static const char *const names[] = {
@@ -328,12 +330,13 @@ static inline const char *gsym_refusal_name(uint32_t number)
         "the name of the symbol or of an inlined call doesn't read, or is not UTF-8",
         "a file index that is not below the file count",
         "a directory or a file name doesn't read",
-        "the header of a line table doesn't read",
-        "an inline block doesn't read",
+        "the header of a line table doesn't read: it is cut short",
+        "an inline block doesn't read: it is cut short",
         "an inline range starts or ends above 2^64-1",
         "a call file above 4,294,967,295",
         "inlined calls on more than 64 levels",
         "more frames than there is room for",
+        "a number wider than 64 bits: from a broken producer, not a torn file",
     };
     return number < sizeof names / sizeof names[0] ? names[number] : 0;
 }
@@ -351,7 +354,7 @@ static inline const char *gsym_finding_name(uint32_t number)
     };
     if (number == 0)
         return "passed";
-    if ((number >= 2 && number <= 6) || (number >= 9 && number <= 13))
+    if ((number >= 2 && number <= 6) || (number >= 9 && number <= 13) || number == 15)
         return gsym_refusal_name(number);
     return number >= 20 && number - 20 < sizeof names / sizeof names[0] ? names[number - 20] : 0;
 }

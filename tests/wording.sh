@@ -24,7 +24,7 @@ awk '
         printf "%d\t%s\t%s\n", ++n, toupper(substr(name, 2)), words
     }' crates/gsym_types/src/lib.rt >"$tmp/words"
 count=$(wc -l <"$tmp/words")
-[ "$count" = 14 ] || { echo "wording: crates/gsym_types has $count refusals with words, and 14 are told of"; exit 1; }
+[ "$count" = 15 ] || { echo "wording: crates/gsym_types has $count refusals with words, and 15 are told of"; exit 1; }
 # likewise for each finding that is no refusal, with the number that `number` gives it
 awk '
     function snake(name) { gsub(/[A-Z]/, "_&", name); return toupper(substr(name, 2)) }

@@ -279,7 +279,7 @@ static void refusals(const places *p)
     CHECK(look(&other, 0x1005, GSYM_CODE_INFO, 64, 0).number == GSYM_FOUND);
 }
 
-/* refusals 10 to 14, alone and in a lookup */
+/* refusals 10 to 14, alone and in a lookup; 15 has a part of its own below */
 static void block_refusals(void)
 {
     block.len = 0;
@@ -550,7 +550,7 @@ static void check_of_items(void)
     CHECK(found_lines(no_range, sizeof no_range, GSYM_STOPPED_PROGRAM));
     CHECK(found_lines(no_operand, sizeof no_operand, GSYM_STOPPED_PROGRAM));
     CHECK(found_lines(cut, sizeof cut, GSYM_STOPPED_PROGRAM));
-    CHECK(found_lines(too_wide, sizeof too_wide, GSYM_STOPPED_PROGRAM));
+    CHECK(found_lines(too_wide, sizeof too_wide, GSYM_STOPPED_PROGRAM)); /* an operand, and no number of the header */
     /* of two faults in the items the first is told */
     put_file(&other, no_range, sizeof no_range, torn, 1);
     CHECK(finds(&other, GSYM_STOPPED_PROGRAM, 0));
@@ -601,6 +601,148 @@ static void check_of_items(void)
     CHECK(is_refusal(with_block(&block, 0x1005), GSYM_TOO_MANY_FRAMES));
 }
 
+/* ---- numbers of ten bytes in line headers and nodes */
+
+/* too wide, signed or not: by the value, and since the tenth byte asks for another */
+static const uint8_t ten_wide[][10] = {
+    {128, 128, 128, 128, 128, 128, 128, 128, 128, 2},   {255, 255, 255, 255, 255, 255, 255, 255, 255, 2},
+    {128, 128, 128, 128, 128, 128, 128, 128, 128, 126}, {255, 255, 255, 255, 255, 255, 255, 255, 255, 126},
+    {128, 128, 128, 128, 128, 128, 128, 128, 128, 128}, {255, 255, 255, 255, 255, 255, 255, 255, 255, 255},
+};
+enum { TEN_WIDE = sizeof ten_wide / sizeof ten_wide[0] };
+
+/* a number below 64, padded to ten bytes: it fits */
+static void pad_ten(uint8_t *at, uint8_t value)
+{
+    memset(at, 128, 9);
+    at[0] |= value;
+    at[9] = 0;
+}
+
+static const uint8_t usual[] = {1, 0, 32, 1, 9}; /* range count, offset, size; call file, call line */
+enum { NODE_PLACES = sizeof usual, HEADER_PLACES = 3 };
+
+/* a node on 32 bytes with one of these numbers in other bytes, where it is the last that is there unless `whole`; the
+ * root, or the child of a root without a name that contains the symbol's address or (`above` is 2) doesn't */
+static void put_node_with(made *m, int above, int place, const uint8_t *number, size_t len, int whole)
+{
+    m->len = 0;
+    if (above)
+        put_node(m, above == 1 ? 0 : 1000, 32, 1, 0, 0, 0);
+    for (int i = 0; i < NODE_PLACES && (whole || i <= place); i++) {
+        if (i == 3) {
+            put(m, 0, 1);
+            put(m, S_MID, 4);
+        }
+        if (i == place)
+            put_bytes(m, number, len);
+        else
+            put(m, usual[i], 1);
+    }
+    if (whole && above)
+        put_uleb(m, 0);
+}
+
+/* the block alone, at every length of the list, in lookups, where it is read with both options only, and in a check */
+static void is_refused_everywhere(uint32_t number)
+{
+    for (int k = 0; k < LENGTHS; k++) {
+        gsym_inline_frame *r;
+        gsym_listed l = list_block(&block, 0x1000, 0x1005, lengths[k], &r);
+        CHECK(l.number == number && l.count == 0 && rest_kept(r, 0));
+    }
+    CHECK(is_refusal(with_block(&block, 0x1005), number));
+    CHECK(is_refusal(look(&other, 0x1005, ALL, 0, 0), number));
+    CHECK(look(&other, 0x1005, GSYM_CODE_INFO, 64, 0).number == GSYM_FOUND);
+    CHECK(look(&other, 0x1005, GSYM_INLINING, 64, 0).number == GSYM_FOUND);
+    CHECK(finds(&other, number, 0));
+}
+
+static void wide_in_a_node(void)
+{
+    uint8_t padded[10];
+    for (int above = 0; above < 3; above++)
+        for (int place = 0; place < NODE_PLACES; place++) {
+            for (int k = 0; k < TEN_WIDE; k++) {
+                for (int whole = 0; whole < 2; whole++) {
+                    put_node_with(&block, above, place, ten_wide[k], 10, whole);
+                    is_refused_everywhere(GSYM_TOO_WIDE);
+                }
+                for (size_t n = 0; n < 10; n++) {
+                    put_node_with(&block, above, place, ten_wide[k], n, 0);
+                    is_refused_everywhere(GSYM_UNREAD_INLINE);
+                }
+            }
+            pad_ten(padded, usual[place]);
+            put_node_with(&block, above, place, &usual[place], 1, 1);
+            gsym_answer a = with_block(&block, 0x1005);
+            put_node_with(&block, above, place, padded, 10, 1);
+            gsym_answer b = with_block(&block, 0x1005);
+            CHECK(a.number == GSYM_FOUND && same(a, b));
+            CHECK(is_text(a.name, other.at, other.len, above == 2 ? "main" : "mid"));
+            CHECK(found_block(&block, 0));
+        }
+    /* a call file that is too wide is 15, and one that reads and is above the limit 12, also before a line that is */
+    static const uint8_t most[10] = {255, 255, 255, 255, 255, 255, 255, 255, 255, 1};
+    put_node_with(&block, 1, 3, most, 10, 1);
+    is_refused_everywhere(GSYM_CALL_FILE_TOO_LARGE);
+    block.len = 0;
+    put_node(&block, 0, 32, 0, S_OUTER, (uint64_t)UINT32_MAX + 1, 0);
+    block.len--;
+    put_bytes(&block, ten_wide[0], 10);
+    is_refused_everywhere(GSYM_CALL_FILE_TOO_LARGE);
+    /* a call line that is too wide before room, and the level before the offset */
+    put_node_with(&block, 0, 4, ten_wide[0], 10, 1);
+    CHECK(list_block(&block, 0x1000, 0x1005, 0, 0).number == GSYM_TOO_WIDE);
+    for (int place = 0; place < 2; place++) {
+        block.len = 0;
+        put_levels(&block, 65, 65, S_MID);
+        block.len -= 64 + 10; /* the ends of the lists, and the node on level 65 */
+        put_bytes(&block, usual, (size_t)place);
+        put_bytes(&block, ten_wide[4], 10);
+        CHECK(found_block(&block, place == 0 ? GSYM_TOO_WIDE : GSYM_TOO_DEEP));
+    }
+    /* what is behind the root isn't read */
+    put_node_with(&block, 0, 0, usual, 1, 1);
+    put_bytes(&block, ten_wide[4], 10);
+    CHECK(with_block(&block, 0x1005).number == GSYM_FOUND);
+    CHECK(found_block(&block, 0));
+}
+
+static void wide_in_a_header(void)
+{
+    uint8_t lines[64];
+    enum { REST = sizeof made_lines - HEADER_PLACES };
+    for (size_t place = 0; place < HEADER_PLACES; place++)
+        for (int k = 0; k < TEN_WIDE; k++) {
+            memcpy(lines, made_lines, place);
+            memcpy(lines + place, ten_wide[k], 10);
+            memcpy(lines + place + 10, made_lines + place + 1, HEADER_PLACES - place - 1 + REST);
+            for (size_t n = 0; n < 12; n++) { /* so many bytes of the number, of eleven all is there */
+                uint32_t number = n < 10 ? GSYM_UNREAD_LINE_HEADER : GSYM_TOO_WIDE;
+                CHECK(found_lines(lines, n < 11 ? place + n : sizeof made_lines + 9, number));
+                CHECK(is_refusal(look(&other, 0x1005, ALL, 64, 0), number));
+                CHECK(is_refusal(look(&other, 0x1005, GSYM_CODE_INFO, 0, 0), number));
+                CHECK(is_main(look(&other, 0x1005, 0, 64, 0), "main", 0, 0, 0));
+                CHECK(is_main(look(&other, 0x1005, GSYM_INLINING, 64, 0), "main", 0, 0, 0));
+            }
+        }
+    /* a min of ten bytes that fits, -4 */
+    memset(lines, 255, 9);
+    lines[0] = 0xfc;
+    lines[9] = 127;
+    memcpy(lines + 10, made_lines + 1, sizeof made_lines - 1);
+    CHECK(found_lines(lines, sizeof made_lines + 9, 0));
+    CHECK(is_main(look(&other, 0x1005, ALL, 64, 0), "outer", 1, 30, 2));
+    /* of a header and a tree the one whose item comes first */
+    static const uint8_t torn[] = {0x80};
+    put_file(&other, ten_wide[4], 10, torn, 1);
+    CHECK(is_refusal(look(&other, 0x1005, ALL, 64, 0), GSYM_TOO_WIDE) && finds(&other, GSYM_TOO_WIDE, 0));
+    put_file(&other, torn, 1, ten_wide[4], 10);
+    CHECK(is_refusal(look(&other, 0x1005, ALL, 64, 0), GSYM_UNREAD_LINE_HEADER));
+    CHECK(finds(&other, GSYM_UNREAD_LINE_HEADER, 0));
+}
+
 static void finding_names(void)
 {
     static const char *const own[] = {"an offset size other than 1, 2, 4 and 8", "the address table falls here",
@@ -609,7 +751,7 @@ static void finding_names(void)
     CHECK(strcmp(gsym_finding_name(0), "passed") == 0);
     for (uint32_t n = 1; n <= 300; n++) {
         const char *name = gsym_finding_name(n);
-        if ((n >= 2 && n <= 6) || (n >= 9 && n <= 13))
+        if ((n >= 2 && n <= 6) || (n >= 9 && n <= 13) || n == GSYM_TOO_WIDE)
             CHECK(name != 0 && strcmp(name, gsym_refusal_name(n)) == 0);
         else if (n >= GSYM_OFFSET_SIZE && n <= GSYM_OPEN_LIST)
             CHECK(name != 0 && strcmp(name, own[n - GSYM_OFFSET_SIZE]) == 0 && gsym_refusal_name(n) == 0);
@@ -624,12 +766,12 @@ static void words_and_texts(void)
     static const uint8_t bytes[4] = {'a', 'b', 'c', 'd'};
     gsym_text t;
     gsym_part part;
-    for (uint32_t n = 0; n < 15; n++) {
+    for (uint32_t n = 0; n <= GSYM_TOO_WIDE; n++) {
         CHECK(gsym_refusal_name(n) != 0 && strlen(gsym_refusal_name(n)) > 4);
         for (uint32_t k = 0; k < n; k++)
             CHECK(strcmp(gsym_refusal_name(k), gsym_refusal_name(n)) != 0);
     }
-    CHECK(gsym_refusal_name(15) == 0 && gsym_refusal_name(UINT32_MAX) == 0);
+    CHECK(GSYM_TOO_WIDE == 15 && gsym_refusal_name(16) == 0 && gsym_refusal_name(UINT32_MAX) == 0);
     for (uint64_t place = 0; place < 7; place++)
         for (uint64_t len = 0; len < 7; len++) {
             t.place = place;
@@ -750,6 +892,18 @@ static void answer_texts(void)
     answers(J, 0, "\xe2\x80\xae\"", GSYM_NO_ADDRESS,
             "{\"address\":null,\"word\":\"\\u202e\\\"\",\"error\":\"no address\"}\n");
     answers(0, 0, "", GSYM_NO_ADDRESS, "?" "?:0\n");
+    /* 15 in words and as JSON, where frames are asked for */
+    const char *wide = "?15 a number wider than 64 bits: from a broken producer, not a torn file\n"
+                       "?15 a number wider than 64 bits: from a broken producer, not a torn file\n";
+    put_node_with(&block, 0, 0, ten_wide[4], 10, 1);
+    put_file(&other, made_lines, sizeof made_lines, block.at, block.len);
+    asked_file = lend(other.at, other.len, 0);
+    asked_len = other.len;
+    answers(F | R, 0, "1005", GSYM_TOO_WIDE, wide);
+    answers(J, 0, "1005", GSYM_TOO_WIDE,
+            "{\"address\":\"0x1005\",\"number\":15,"
+            "\"refusal\":\"a number wider than 64 bits: from a broken producer, not a torn file\"}\n");
+    answers(R, 0, "1005", GSYM_FOUND, "/src/a.c:12\n");
     /* null pointers where the length is 0 */
     EACH_ROOM("?" "?:0\n", 5, gsym_answer_text(asked_file, asked_len, 0, 0, 0, 0, room, n).len);
     asked_file = 0;
@@ -800,9 +954,9 @@ static void shown_texts(void)
     EACH_ROOM("a?b?c????\xa0\xc2\xa0", 12, gsym_shown_text(bytes_of(steering), sizeof steering - 1, room, n));
     EACH_ROOM("", 0, gsym_shown_text(0, 0, room, n));
     EACH_ROOM("", 0, gsym_shown_text(bytes_of("a"), 0, room, n));
-    for (uint32_t k = 1; k < 15; k++)
+    for (uint32_t k = 1; k <= GSYM_TOO_WIDE; k++)
         EACH_ROOM(gsym_refusal_name(k), strlen(gsym_refusal_name(k)), gsym_refusal_text(k, room, n));
-    static const uint32_t none[] = {0, 15, 254, GSYM_NO_ADDRESS, 256, 257, 0x10001, UINT32_MAX};
+    static const uint32_t none[] = {0, 16, 254, GSYM_NO_ADDRESS, 256, 257, 0x10001, UINT32_MAX};
     for (size_t k = 0; k < sizeof none / sizeof none[0]; k++)
         EACH_ROOM("", 0, gsym_refusal_text(none[k], room, n));
 }
@@ -864,6 +1018,8 @@ int main(void)
     check_of_tables(&p);
     check_of_entries(&p);
     check_of_items();
+    wide_in_a_node();
+    wide_in_a_header();
     answer_texts();
     every_view();
     shown_texts();

@@ -182,7 +182,8 @@ def changes(judge, path, data):
 def main():
     judge = Judge(Library(sys.argv[1]))
     r = random.Random(5)
-    for part, files in (("files that pass", made.good), ("single faults", made.singles), ("pairs", made.pairs)):
+    parts = [("files that pass", made.good), ("single faults", made.singles), ("pairs", made.pairs)]
+    for part, files in (*parts, ("numbers too wide", made.wide)):
         for data, want, what in files(r):
             judge.file(part, data, want, what)
     seeds = []
@@ -206,12 +207,13 @@ def main():
     for _ in range(2000):
         judge.file("random files", made.mutated(r, r.choice(seeds)))
     c = judge.counts
-    missing = sorted({0, *made.NUMBERS} - judge.numbers)
+    missing = sorted({0, 15, *made.NUMBERS} - judge.numbers)
     missing += [f"{n} by a lookup" for n, options in judge.given.items() if not options]
     missing += [] if c["lookups of equal entries"] else ["one of equal entries"]
     made_files = c["files that pass"] + c["single faults"]
     print(
-        f"{made_files:,} files made, {c['pairs']:,} pairs of faults, {c['real files']} real files,"
+        f"{made_files:,} files made, {c['pairs']:,} pairs of faults, {c['numbers too wide']:,} with a number"
+        f" too wide, short or padded, {c['real files']} real files,"
         f" {c['inputs of DIFFERENCES']} inputs of DIFFERENCES,"
         f" {c['prefixes']:,} torn ones ({c['prefixes by the model']:,} by the model),"
         f" {c['changed bytes']:,} changed bytes, {c['random files']:,} random files,"

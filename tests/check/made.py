@@ -271,14 +271,14 @@ ENTRY_FAULTS = {
 }
 
 
-# Faults of items, by number: type and bytes.
+# Faults of items: their numbers and bytes.
 def line_faults():
     header = [b"\x80\x7f", b"\xff\x80\x01", b"\x90\x80\x04"]
     whole = b"".join(header)
     yield from ((9, whole[:n]) for n in range(len(whole)))
     for i in range(3):
         for wide in WIDE_U if i == 2 else WIDE_S:
-            yield 9, b"".join([*header[:i], wide, *header[i + 1 :]]) + PROGRAM
+            yield 15, b"".join([*header[:i], wide, *header[i + 1 :]]) + PROGRAM
         yield 9, b"".join(header[:i]) + b"\x80" * 9
     # a range of 0: plain and wrapped; special opcodes first, after a row, last
     for low, high in ((0, -1), (1, 0), (-5, -6), (-(2**63), 2**63 - 1)):
@@ -305,9 +305,9 @@ def tree_faults():
     for wide in WIDE_U:
         for bad in (wide, node((wide, 1)), node((1, wide)), node((1, 1), (wide, 1)), node((1, 1), file=wide)):
             for tree in (bad, node((0, 8), kids=[bad]), node((0, 8), kids=[TREE, bad]), chain(5, bad)):
-                yield 10, tree + bytes(8)
-        yield 10, node((1, 1), line=wide)
-        yield 10, chain(64, wide)  # a range count that doesn't read comes before the level
+                yield 15, tree + bytes(8)
+        yield 15, node((1, 1), line=wide)
+        yield 15, chain(64, wide)  # a range count that doesn't read comes before the level
     yield from ((10, chain(64, b"\x80" * n)[:-64]) for n in (0, 1, 9))
     yield 10, uleb(2**63) + bytes(40)
     yield 10, b"\x03\0\1\0\1"
@@ -355,7 +355,7 @@ def tree_faults():
     # several in one tree: what comes first in the order inside a node
     yield 13, lambda s: chain(64, node((TOP - 1, TOP - 1), file=2**32))
     yield 10, lambda s: uleb(1) + uleb(up(0)(s))  # the size is read before the start is judged
-    yield 10, lambda s: node((up(0)(s), WIDE_U[0]))
+    yield 15, lambda s: node((up(0)(s), WIDE_U[0]))
     yield 11, lambda s: uleb(2) + uleb(up(0)(s)) + b"\0"
     yield 11, lambda s: uleb(2) + uleb(0) + uleb(up(0)(s)) + WIDE_U[1]
     yield 11, lambda s: uleb(1) + uleb(0) + uleb(up(0)(s))
@@ -371,11 +371,12 @@ def tree_faults():
     yield 12, node((0, 8), file=2**32, kids=[chain(64)])
 
 
+# By number: of each item its type, its bytes and its fault. Where a number of a header or a node is too wide that is
+# 15, and stands among those whose bytes end too early, 9 and 10.
 ITEM_FAULTS = {}
-for number, block in line_faults():
-    ITEM_FAULTS.setdefault(number, []).append((1, block))
-for number, block in tree_faults():
-    ITEM_FAULTS.setdefault(number, []).append((2, block))
+for kind, faults, torn in ((1, line_faults, 9), (2, tree_faults, 10)):
+    for number, block in faults():
+        ITEM_FAULTS.setdefault(torn if number == 15 else number, []).append((kind, block, number))
 
 
 # What passes: items, and functions of the file, the entry's index and chance.
@@ -444,15 +445,14 @@ GOOD_FILES = [
 ]
 
 
-def put_item(f, i, r, number, at=None):
-    kind, block = number if isinstance(number, tuple) else r.choice(ITEM_FAULTS[number])
-    fault = 0 if isinstance(number, tuple) else number
+def put_item(f, i, r, kind, block, fault=0):
     e = f.entries[i]
-    e.items.insert(r.randint(0, len(e.items)) if at is None else at, Item(kind, block, fault))
+    e.items.insert(r.randint(0, len(e.items)), Item(kind, block, fault))
+    return fault
 
 
 def put(f, i, r, number):
-    """A fault of this number by chance, of the file or of its entry i."""
+    """A fault of this number by chance, of the file or of its entry i; the number it has (15 among 9 and 10)."""
     if number in TABLE_FAULTS:
         r.choice(TABLE_FAULTS[number])(f, r)
         f.faults.add(number)
@@ -460,7 +460,8 @@ def put(f, i, r, number):
         r.choice(ENTRY_FAULTS[number])(f, i, r)
         f.entries[i].faults.add(number)
     else:
-        put_item(f, i, r, number)
+        return put_item(f, i, r, *r.choice(ITEM_FAULTS[number]))
+    return number
 
 
 def done(f, what):
@@ -500,12 +501,12 @@ def good(r):
     yield slow(40, 10), (0, 0), "a shared list"
     yield from runs(r)
     # what no entry names, and what stands behind type 0, may be anything
-    for kind, blocks in ITEM_FAULTS.items():
+    for number, blocks in ITEM_FAULTS.items():
         f = File(r)
-        t, block = r.choice(blocks)
+        t, block, _ = r.choice(blocks)
         block = block(0x1000) if callable(block) else block
         f.entries[1].end = u32(0) + u32(4) + u32(t) + u32(len(block)) + block
-        yield done(f, f"{kind} behind type 0")
+        yield done(f, f"{number} behind type 0")
 
 
 def with_addresses(r, addresses, **fields):
@@ -568,8 +569,8 @@ def singles(r):
                     yield done(f, f"{number} at {i} of {entries}")
     for i in range(3):
         for at in range(3):
-            for number, faults in ITEM_FAULTS.items():
-                for kind, block in faults:
+            for faults in ITEM_FAULTS.values():
+                for kind, block, number in faults:
                     f = File(r)
                     f.entries[i].items.insert(at, Item(kind, block, number))
                     yield done(f, f"{number} at {i}, item {at}")
@@ -628,8 +629,8 @@ def singles(r):
                 f = File(r)
                 f.entries[i].addr = f.entries[i - 1].addr
                 apart(f)
-                put(f, i, r, number)
-                yield done(f, f"{number} at {i}, which is equal to the one before it")
+                told_as = put(f, i, r, number)
+                yield done(f, f"{told_as} at {i}, which is equal to the one before it")
     # falls in long tables with runs: the first is told, and entries rise again behind it
     for _ in range(300):
         f = File(r, r.randrange(2, 40))
@@ -647,6 +648,7 @@ def singles(r):
         yield done(f, "falls in a long table")
 
 
+# 15 is met among 9 and 10, and by `wide` in each place
 NUMBERS = [*TABLE_FAULTS, *ENTRY_FAULTS, *ITEM_FAULTS]
 
 
@@ -672,9 +674,142 @@ def pairs(r, times=3):
                     continue
                 for _ in range(times):
                     f = File(r)
-                    put(f, i, r, a)
-                    put(f, j, r, b)
-                    yield done(f, f"{a} at {i} and {b} at {j}")
+                    first, second = put(f, i, r, a), put(f, j, r, b)
+                    yield done(f, f"{first} at {i} and {second} at {j}")
+
+
+# A number's places: what it is called, the bytes before it, the bytes behind it, whether it is signed.
+def line_places():
+    low, high, first, rest = sleb(-4), sleb(10), uleb(100), PROGRAM
+    yield "min", b"", high + first + rest, True
+    yield "max", low, first + rest, True
+    yield "first line", low + high, rest, False
+
+
+def node_places():
+    parts = [uleb(2), uleb(3), uleb(5), uleb(0x40), uleb(8), b"\0" + u32(1), uleb(2), uleb(300)]
+    names = ["range count", "offset", "size", "second offset", "second size", None, "call file", "call line"]
+    for i, name in enumerate(names):
+        if name:
+            yield name, b"".join(parts[:i]), b"".join(parts[i + 1 :]), False
+
+
+# What a node may stand in, as what is before it and what is behind it: nothing; an open root; a root far from any
+# address, which a check judges as well, and below it; 62 levels, and a sibling.
+ABOVE = {
+    "a root": (b"", b""),
+    "a child": (node((0, 8), kids=[])[:-1], b"\0"),
+    "a child of a far node": (node((0x1000, 8), kids=[])[:-1], b"\0"),
+    "a grandchild of a far node": (node((0x1000, 8), kids=[])[:-1] + node((9, 1), kids=[])[:-1], b"\0\0"),
+    "a second child": (node((0, 8), kids=[])[:-1] + TREE, b"\0"),
+    "level 64": (node((0, 8), kids=[])[:-1] * 63, b"\0" * 63),
+}
+
+
+def all_places():
+    """Items' numbers: the item's type, what the number is called, the bytes before it and behind it, its sign."""
+    for name, before, behind, signed in line_places():
+        yield 1, f"the {name}", before, behind, signed
+    for above, (start, end) in ABOVE.items():
+        for name, before, behind, signed in node_places():
+            yield 2, f"the {name} of {above}", start + before, behind + end, signed
+
+
+def wide_numbers(signed):
+    """Ten bytes that are too wide: at the edges of what fits, above, and where the tenth asks for another."""
+    lasts = (0x01, 0x02, 0x3F, 0x40, 0x7D, 0x7E) if signed else (0x02, 0x03, 0x3F, 0x40, 0x7E, 0x7F)
+    for fill in (b"\x80", b"\xff"):
+        yield from (fill * 9 + bytes([last]) for last in lasts)
+        yield from (fill * 9 + bytes([last]) for last in (0x80, 0x81, 0xFF))
+
+
+def fitting_numbers(signed):
+    """Ten bytes that fit: what is padding alone, and the largest and the lowest numbers."""
+    for fill in (b"\x80", b"\xff"):
+        yield from (fill * 9 + bytes([last]) for last in ((0x00, 0x7F) if signed else (0x00, 0x01)))
+
+
+def item_in(r, i, kind, block, fault):
+    f = File(r)
+    put_item(f, i, r, kind, block, fault)
+    return f
+
+
+def wide(r):
+    """A number of ten bytes in each place of a header and of a node: too wide, which is 15, with its rest and without;
+    cut, which is short; one that fits. And what comes first: beside other numbers of a node, and each other fault."""
+    for kind, name, before, behind, signed in all_places():
+        for i in range(3):
+            for number in wide_numbers(signed):
+                yield done(item_in(r, i, kind, before + number + behind, 15), f"15: {name}")
+                yield done(item_in(r, i, kind, before + number, 15), f"15: {name}, which ends the item")
+            for fill in (b"\x80", b"\xff"):
+                for n in range(10):
+                    short = item_in(r, i, kind, before + fill * n, 9 if kind == 1 else 10)
+                    yield done(short, f"{'nine' if n == 9 else 'fewer'} bytes and the end: {name}")
+    for name, before, behind, signed in line_places():
+        for number in fitting_numbers(signed):
+            yield done(item_in(r, 1, 1, before + number + b"".join([behind[:-len(PROGRAM)], b"\0"]), 0), f"{name} fits")
+    for above, (start, end) in ABOVE.items():
+        for name, before, behind, _ in node_places():
+            value = {"range count": 2, "offset": 3, "size": 5}.get(name, 0)
+            number = bytes([0x80 | value]) + b"\x80" * 8 + b"\0"
+            yield done(item_in(r, 1, 2, start + before + number + behind + end, 0), f"the {name} of {above} fits")
+    ten = b"\x80" * 10
+    past = lambda s: uleb(TOP - s)
+    for what, number, block in (
+        ("the range count of level 65", 15, chain(64, ten)),
+        ("the offset on level 65", 13, chain(64, b"\1" + ten)),
+        ("the size, and the start is above", 15, lambda s: b"\1" + past(s) + ten),
+        ("the second offset, and the first start is above", 11, lambda s: b"\2" + past(s) + b"\0" + ten),
+        ("the second offset, and the first end is above", 11, lambda s: b"\2\0" + past(s) + ten),
+        ("the second size, and the second start is above", 15, lambda s: b"\2\0\1" + past(s) + ten),
+        ("the call file, and an end is above", 11, lambda s: node((0, TOP - s), file=ten)),
+        ("the call line, and the call file is above the limit", 12, node((0, 8), file=2**32, line=ten)),
+        ("the call line, and the call file is the limit", 15, node((0, 8), file=2**32 - 1, line=ten)),
+        ("the call file, and the call line too", 15, node((0, 8), file=ten, line=ten)),
+        ("the range count of a child, and the call file of the next is above", 15,
+         node((0, 8), kids=[ten, node((0, 8), file=2**32)])),
+        ("the call file of a child, and that of the one before is above", 12,
+         node((0, 8), kids=[node((0, 8), file=2**32), node((0, 8), file=ten)])),
+        ("the call file, and the end of the bytes before it", 10, node((0, 8), file=ten)[:7]),
+        ("behind the end of the root", 0, node((0, 8)) + ten),
+        ("behind an empty root", 0, b"\0" + ten),
+    ):
+        for i in range(3):
+            yield done(item_in(r, i, 2, block, number), f"{number}: too wide {what}")
+    for what, number, block in (
+        ("max, and min is cut", 9, b"\x80"),
+        ("min, and the end", 15, ten),
+        ("max, and the first line is cut", 15, b"\0" + ten + b"\x80"),
+        ("the first operand", 23, lines(program=b"\1" + ten)),
+        ("behind opcode 0", 0, lines(program=b"\0" + ten)),
+    ):
+        for i in range(3):
+            yield done(item_in(r, i, 1, block, number), f"{number}: too wide {what}")
+    yield from wide_pairs(r)
+
+
+def wide_pairs(r):
+    """15 and each other fault in one file, either way round."""
+    faults = {number: blocks for number, blocks in ITEM_FAULTS.items() if number not in (9, 10)}
+    for number in (9, 10, 15):
+        faults[number] = [fault for torn in (9, 10) for fault in ITEM_FAULTS[torn] if fault[2] == number]
+    for number in (*NUMBERS, 15):
+        for i in range(3):
+            for j in range(1 if number == 21 else 0, 3):
+                for is_first in (False, True):
+                    f = File(r)
+                    if is_first:
+                        put_item(f, i, r, *r.choice(faults[15]))
+                    if number in faults:
+                        put_item(f, j, r, *r.choice(faults[number]))
+                    else:
+                        put(f, j, r, number)
+                    if not is_first:
+                        put_item(f, i, r, *r.choice(faults[15]))
+                    pair = [f"15 at {i}", f"{number} at {j}"]
+                    yield done(f, " and ".join(pair if is_first else pair[::-1]))
 
 
 def mixed(r):
@@ -684,7 +819,7 @@ def mixed(r):
         i = r.randrange(len(f.entries))
         r.choice(GOOD_ENTRIES)(f, i, r)
     for _ in range(r.randrange(4)):
-        put_item(f, r.randrange(len(f.entries)), r, r.choice(GOOD_ITEMS))
+        put_item(f, r.randrange(len(f.entries)), r, *r.choice(GOOD_ITEMS))
     for _ in range(r.choice([0, 0, 1, 2, 3])):
         number = r.choice(NUMBERS)
         if number in TABLE_FAULTS and r.random() < 0.8:

@@ -3,7 +3,7 @@
 # has it, "Checking a file" and "What the tools print": made files with every fault and each pair of faults, real
 # files, torn, changed and random ones, lookups in files that pass (judge.py), and what the program prints (tool.py);
 # and what crates/check_cases replays is what vectors.py writes.
-# Some 50 seconds. Exit status 1 where something differs, 3 where there is no Python.
+# About a minute. Exit status 1 where something differs, 3 where there is no Python.
 set -u
 cd "$(dirname "$0")/../.." || exit 2
 command -v python3 >/dev/null 2>&1 || { echo "tests/check: no python3: not tried"; exit 3; }

@@ -25,12 +25,19 @@ def of_pair(want, what):
     return (pair[1], pair[3], pair[2] == pair[4]) if pair else (want, what.split("]")[0])
 
 
+def of_place(want, what):
+    """Where the number stands, whichever entry's it is."""
+    pair = of_pair(want, what)
+    return pair if len(pair) == 3 else what
+
+
 def main():
     r = random.Random(5)
     parts = (
         ("files that pass", made.good, lambda want, what: what),
         ("single faults", made.singles, lambda want, what: what),
         ("pairs of faults, of which the first is told", made.pairs, of_pair),
+        ("numbers too wide, short and padded, in each place", made.wide, of_place),
     )
     for name, files, kind in parts:
         print("#", name)

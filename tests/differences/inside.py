@@ -12,12 +12,16 @@ OUTSIDE = []
 
 
 class Watched(lookup_model.Bytes):
-    """Marks a case in which a number is met that the domain leaves out: too wide, or signed and of ten bytes."""
+    """Marks a case in which a number is met that the domain leaves out, by its kind: too wide, in a header or a node or
+    as an operand, or signed and of ten bytes."""
 
     def leb(self, signed=False):
         part = self.data[self.at : self.at + 10]
-        if len(part) == 10 and all(b >= 128 for b in part[:9]) and (signed or part[9] > 1):
-            OUTSIDE.append("number")
+        if len(part) == 10 and all(b >= 128 for b in part[:9]):
+            if part[9] not in ((0, 127) if signed else (0, 1)):
+                OUTSIDE.append("too wide" if self.wide == 15 else "operand too wide")
+            elif signed:
+                OUTSIDE.append("signed")
         return super().leb(signed)
 
 
@@ -134,6 +138,8 @@ def main():
         opts = r.choice([0, 1, 2, 3, 3, 3, 3])
         OUTSIDE.clear()
         said = by_model(file, address, opts, 64, True)
+        # such a number is the last that is read
+        assert said != "?15" or OUTSIDE[-1:] == ["too wide"], "15, and no number of a header or a node is too wide"
         if OUTSIDE or said in (None, "?13", "?14") or not inside(file, address):
             outside += 1
             continue

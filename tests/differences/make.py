@@ -8,6 +8,7 @@ from shape import ALL, END, FILES, ROW, TABLE, at, call, gsym, info, item, lines
 
 CASES = []
 WIDE = b"\x80" * 9 + b"\x02"  # 2^64 in ten bytes
+ZEROS = b"\x80" * 10  # ten digits of 0, of which each asks for another
 TOP = 2**64 - 1
 
 
@@ -23,6 +24,25 @@ def numbers():
     case("leb-signed-10", one(lines(b"\2\0\0", b"\x80" * 9 + b"\1" + b"\0\5"), END))
     case("leb-wide-range", one(ROW, tree(ranges=[(WIDE, 0x40)], name="outer"), END))
     case("line-operand-wide", one(lines(b"\2\1\1" + WIDE), END), 0x1005)
+    # ten bytes that fit: padding, the largest, and of a signed number
+    case("leb-10-padding", one(lines(b"\2\0\0", b"\0\0" + b"\x85" + b"\x80" * 8 + b"\0"), END))
+    case("leb-10-most", one(lines(b"\2\0\0", b"\0\0" + b"\xff" * 9 + b"\1"), END))
+    case("leb-signed-10-padding", one(lines(b"\2\0\0", b"\x80" * 9 + b"\0" + b"\0\5"), END))
+    # the end of the item behind the tenth byte that asks for another, and before it
+    case("leb-zeros-10", one(item(1, b"\0\0" + ZEROS), END))
+    case("leb-zeros-9", one(item(1, b"\0\0" + ZEROS[:9]), END))
+    case("leb-signed-zeros-10", one(item(1, ZEROS), END))
+    root = node(ALL, "main", (0, 0), [])[:-1]
+    case("leb-tree-zeros-10", one(ROW, item(2, root + ZEROS), END))
+    case("leb-tree-zeros-9", one(ROW, item(2, root + ZEROS[:9]), END))
+    # in a tree: the root's range count, a call file and a call line; below a root that doesn't contain the address
+    case("leb-wide-count", one(ROW, item(2, WIDE + tree(call("leaf", 9))[9:]), END))
+    case("leb-wide-call-file", one(ROW, tree(call("leaf", 9, file=WIDE)), END))
+    case("leb-wide-call-line", one(ROW, tree(call("leaf", WIDE)), END))
+    case("leb-wide-closed", one(ROW, tree(call("leaf", WIDE), ranges=[(0x80, 8)], name="outer"), END))
+    # a number that is too wide, and a tree or a header that is cut, whichever item comes first
+    case("leb-wide-line-first", one(item(1, ZEROS), item(2, b"\1"), END))
+    case("leb-wide-line-last", one(item(2, b"\1"), item(1, ZEROS), END))
 
 
 def opening():

@@ -53,6 +53,89 @@ static void check_text(bytes file, gsym_text t, int is_name)
     HOLDS(!is_name || is_utf8((const uint8_t *)at, t.len), "a name is UTF-8");
 }
 
+/* ---- numbers of any length, line headers and trees, as far as they read (RULES, "LEB128") */
+
+/* a number at a place: 0 where it reads, and the place is then behind it; 10 where the bytes end before it; 15 where it
+ * is too wide: its tenth byte asks for another, or says more than 64 bits hold */
+static uint32_t pass_number(bytes b, size_t *at, int is_signed, uint64_t *value)
+{
+    uint64_t bits = 0;
+    for (int i = 0; i < 10; i++) {
+        if (*at >= b.len)
+            return 10;
+        uint8_t byte = b.at[(*at)++];
+        bits |= (uint64_t)(byte & 127) << (7 * i);
+        if (byte < 128) {
+            *value = bits;
+            return i < 9 || (is_signed ? byte == 0 || byte == 127 : byte < 2) ? 0 : 15;
+        }
+    }
+    return 15;
+}
+
+/* what refuses the header of a line table: 0, 9 or 15 */
+static uint32_t header_unread(bytes b)
+{
+    size_t at = 0;
+    uint64_t value = 0;
+    for (int i = 0; i < 3; i++) {
+        uint32_t told = pass_number(b, &at, i < 2, &value);
+        if (told != 0)
+            return told == 10 ? 9 : told;
+    }
+    return 0;
+}
+
+/* what refuses a tree whose nodes are read and not judged: 0, 10 or 15 */
+static uint32_t tree_unread(bytes b)
+{
+    size_t at = 0;
+    uint64_t lists = 0, ranges = 0, value = 0;
+    uint32_t told = 0;
+    do {
+        if ((told = pass_number(b, &at, 0, &ranges)) != 0)
+            return told;
+        if (ranges == 0) {
+            lists -= lists > 0;
+            continue;
+        }
+        for (uint64_t i = 0; i < ranges; i++)
+            if ((told = pass_number(b, &at, 0, &value)) != 0 || (told = pass_number(b, &at, 0, &value)) != 0)
+                return told;
+        if (b.len - at < 5)
+            return 10;
+        lists += b.at[at] != 0;
+        at += 5;
+        if ((told = pass_number(b, &at, 0, &value)) != 0 || (told = pass_number(b, &at, 0, &value)) != 0)
+            return told;
+    } while (lists > 0);
+    return 0;
+}
+
+/* an item of a list: its type, 0 where the list ends, and its bytes; the place is then behind it */
+static uint64_t next_item(bytes file, uint64_t *place, bytes *item)
+{
+    uint64_t left = *place <= file.len ? file.len - *place : 0;
+    if (left < 8 || number_at(file.at + *place + 4, 4) > left - 8)
+        return 0;
+    uint64_t kind = number_at(file.at + *place, 4);
+    *item = (bytes){file.at + *place + 8, (size_t)number_at(file.at + *place + 4, 4)};
+    *place += 8 + item->len;
+    return kind;
+}
+
+/* of the list at that place the first line header or tree that doesn't read: 9, 10 or 15, and 0 where all do */
+static uint32_t first_unread(bytes file, uint64_t place)
+{
+    bytes item = {0, 0};
+    uint32_t told = 0;
+    for (uint64_t kind = 1; told == 0 && kind != 0;) {
+        kind = next_item(file, &place, &item);
+        told = kind == 1 ? header_unread(item) : kind == 2 ? tree_unread(item) : 0;
+    }
+    return told;
+}
+
 static int is_none(gsym_text t) { return t.place == 0 && t.len == 0; }
 
 static int same_text(gsym_text a, gsym_text b) { return a.place == b.place && a.len == b.len; }
@@ -88,9 +171,9 @@ static int same_looked(const looked *x, const looked *y)
 
 static void check_refusal(bytes file, gsym_answer a, uint32_t options)
 {
-    HOLDS(a.number <= 14, "a refusal's number is 1 to 14");
+    HOLDS(a.number <= 15, "a refusal's number is 1 to 15");
     HOLDS((options & GSYM_CODE_INFO) || a.number <= 6, "without code info a refusal is 1 to 6");
-    HOLDS((options & GSYM_INLINING) || a.number <= 9, "without inlining a refusal is 1 to 9");
+    HOLDS((options & GSYM_INLINING) || a.number <= 9 || a.number == 15, "without inlining a refusal is 1 to 9, or 15");
     HOLDS(a.has_code == 0 && a.addr == 0 && a.size == 0 && a.line == 0 && is_none(a.name) && is_none(a.dir) &&
               is_none(a.file) && a.count == 0,
           "all else in a refusal is 0");
@@ -204,6 +287,45 @@ static looked look(bytes file, uint64_t addr, uint32_t options, size_t room, int
     return l;
 }
 
+/* whether the list at that place has an item that is refused with this number: a line header as it reads here, a tree
+ * as the call for single blocks has it */
+static int is_of_item(bytes file, uint64_t place, uint64_t symbol, uint64_t addr, int inlining, uint32_t number)
+{
+    static gsym_inline_frame frames[GSYM_MAX_FRAMES];
+    bytes item = {0, 0};
+    for (;;) {
+        uint64_t kind = next_item(file, &place, &item);
+        if (kind == 0)
+            return 0;
+        if (kind == 1 && header_unread(item) == number)
+            return 1;
+        if (kind == 2 && inlining &&
+            gsym_block_frames(item.at, item.len, symbol, addr, frames, GSYM_MAX_FRAMES).number == number)
+            return 1;
+    }
+}
+
+/* A lookup that is refused for an item, with 9 to 13 or 15, where one that asks for nothing more has this answer: an
+ * entry of the symbol has such an item. Equal entries in a row are one, and of more than eight with this address, in a
+ * table that falls, nothing is said. */
+static void check_item(bytes file, uint64_t addr, int inlining, uint32_t number, gsym_answer plain)
+{
+    if (number < 9 || number == 14)
+        return;
+    HOLDS(plain.number == 0, "9 to 15 are given for a symbol that is known");
+    uint64_t width = file.at[6], base = number_at(file.at + 8, 8), entries = number_at(file.at + 16, 4), met = 0;
+    const uint8_t *table = file.at + 48, *offsets = file.at + ((48 + entries * width + 3) & ~(uint64_t)3);
+    for (uint64_t i = 0; i < entries && met <= 8; i++) {
+        uint64_t entry = number_at(table + i * width, (int)width), place = number_at(offsets + 4 * i, 4);
+        if (base + entry != plain.addr || (i > 0 && number_at(table + (i - 1) * width, (int)width) == entry))
+            continue;
+        met++;
+        if (is_of_item(file, place + 8, plain.addr, addr, inlining, number))
+            return;
+    }
+    HOLDS(met > 8, "9 to 13 and 15 are given for an item of the symbol that is refused so");
+}
+
 /* what is asked for less succeeds where more did, with the same symbol (RULES, "Address data list") */
 static void check_less(bytes file, uint64_t addr, const looked *all, int at_end)
 {
@@ -211,6 +333,13 @@ static void check_less(bytes file, uint64_t addr, const looked *all, int at_end)
     looked code = look(file, addr, GSYM_CODE_INFO, 0, at_end);
     looked odd = look(file, addr, GSYM_INLINING, 3, at_end);
     HOLDS(same_looked(&plain, &odd), "inlining alone is as nothing asked for");
+    HOLDS(plain.a.number == 0 || (code.a.number == plain.a.number && all->a.number == plain.a.number),
+          "what is refused where nothing more is asked for is so whatever is");
+    HOLDS(all->a.number != 9 || code.a.number == 9, "9 with inlining is 9 without it");
+    HOLDS((code.a.number != 9 && code.a.number != 15) || all->a.number == code.a.number || all->a.number >= 10,
+          "a line header that refuses does so with inlining too, but for a tree before it");
+    check_item(file, addr, 0, code.a.number, plain.a);
+    check_item(file, addr, 1, all->a.number, plain.a);
     if (code.a.number == 0) {
         HOLDS(plain.a.number == 0, "a lookup succeeds without code info where one with it does");
         HOLDS(plain.a.addr == code.a.addr && plain.a.size == code.a.size,
@@ -268,7 +397,7 @@ static int is_closed(bytes file, uint64_t place)
 
 /* What is told of a file that opens, by its header, its tables, its entries' first eight bytes and the ends of their
  * lists: each entry below the told one, and each of a file that passes, is well in all that, and 21, 5, 22 and 24 are
- * told where it is so. */
+ * told where it is so; and of line headers and trees, as far as they read, 9, 10 and 15. */
 static void check_told(bytes file, gsym_finding f)
 {
     uint64_t width = file.at[6], base = number_at(file.at + 8, 8), entries = number_at(file.at + 16, 4), before = 0;
@@ -287,10 +416,14 @@ static void check_told(bytes file, gsym_finding f)
         if (f.number == 0 || i < f.entry) {
             HOLDS(first == 0, "an entry below the told one doesn't fall, its information reads and its sum is small");
             HOLDS(is_closed(file, place + 8), "the list of an entry below the told one ends in type 0");
+            HOLDS(first_unread(file, place + 8) == 0, "the headers and trees of an entry below the told one read");
         } else {
             HOLDS(first == 0 ? f.number != 21 && f.number != 5 && f.number != 22 : f.number == first,
                   "21, 5 and 22 are given where it is so, in this order, and nothing before them");
             HOLDS(f.number != 24 || !is_closed(file, place + 8), "24 is given for a list that doesn't end in type 0");
+            HOLDS((f.number != 9 && f.number != 10 && f.number != 15) || first_unread(file, place + 8) == f.number,
+                  "9 and 10 are given where the bytes end too early, and 15 where a number is too wide");
+            HOLDS(f.number != 24 || first_unread(file, place + 8) == 0, "24 comes after the faults of the items");
         }
     }
 }
@@ -305,7 +438,8 @@ static gsym_finding check_whole(bytes file, int at_end, uint64_t *calls)
     gsym_finding f = gsym_check(file.at, file.len), again = gsym_check(file.at, file.len);
     uint32_t n = f.number;
     HOLDS(n == again.number && f.entry == again.entry, "the same check finds the same");
-    HOLDS(n == 0 || (n >= 2 && n <= 6) || (n >= 9 && n <= 13) || (n >= 20 && n <= 24), "a check gives no other number");
+    HOLDS(n == 0 || (n >= 2 && n <= 6) || (n >= 9 && n <= 13) || n == 15 || (n >= 20 && n <= 24),
+          "a check gives no other number");
     HOLDS(gsym_finding_name(n) != 0, "what a check finds has a name");
     HOLDS(f.entry == 0 || (n >= 5 && n != 20), "an entry is told of an entry's fault alone");
     HOLDS((n >= 2 && n <= 4) == (opens >= 2 && opens <= 4), "2, 3 and 4 are given where a lookup is refused with them");
@@ -337,7 +471,9 @@ static listed list_frames(bytes block, uint64_t symbol, uint64_t addr, size_t ro
     asked.call = "gsym_block_frames", asked.symbol = symbol, asked.addr = addr, asked.options = 0;
     asked.len = block.len, asked.room = room, asked.at_end = at_end;
     l.a = gsym_block_frames(block.at, block.len, symbol, addr, list, room);
-    HOLDS(l.a.number == 0 || (l.a.number >= 10 && l.a.number <= 14), "a block's number is 0 or 10 to 14");
+    HOLDS(l.a.number == 0 || (l.a.number >= 10 && l.a.number <= 15), "a block's number is 0 or 10 to 15");
+    HOLDS((l.a.number != 0 && l.a.number != 10 && l.a.number != 15) || l.a.number == tree_unread(block),
+          "10 is given where the bytes end too early, 15 where a number is too wide, and what is answered reads");
     HOLDS(l.a.number == 0 || l.a.count == 0, "a refused block has no record");
     HOLDS(l.a.count <= room && l.a.count <= GSYM_MAX_FRAMES, "no more records than room");
     memcpy(l.frames, list, (size_t)l.a.count * sizeof(gsym_inline_frame));
@@ -357,7 +493,12 @@ static listed list_all_ways(bytes block, uint64_t symbol, uint64_t addr, size_t 
     HOLDS(l.a.number == 14 || same_listed(&l, &more), "more room changes no answer but 14");
     HOLDS(more.a.number != 14 || l.a.number == 14, "what has too little room has it with less room too");
     HOLDS(l.a.number != 14 || more.a.number != 0 || more.a.count > room, "14 only where the frames are more than room");
-    *calls += 3;
+    size_t cuts[] = {(size_t)(addr % (block.len + 1)), block.len - (size_t)((1 + addr % 12) % (block.len + 1))};
+    for (int i = 0; i < 2; i++) {
+        listed part = list_frames((bytes){block.at, cuts[i]}, symbol, addr, room, at_end);
+        HOLDS(part.a.number == 10 || same_listed(&part, &l), "a block that is cut has 10, or what the whole one has");
+    }
+    *calls += 5;
     return l;
 }
 

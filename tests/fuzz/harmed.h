@@ -77,7 +77,7 @@ static gsym_answer harmed_lookup(const uint8_t *file, size_t len, uint64_t addr,
     case 5: frames[-1].line = 0; break;
     case 6: if (a.count < room) frames[a.count].line++; break;
     case 7: if (a.number == 0 && a.count > 0) frames[a.count - 1].name.len++; break;
-    case 8: if (a.number != 0) a.number = 15; break;
+    case 8: if (a.number != 0) a.number = 16; break;
     case 9: if (a.number != 0) a.addr = addr; break;
     case 10: if (a.number == 0) a.name.len++; break;
     case 11: if (a.number == 0) a.name.place = len; break;
@@ -91,6 +91,8 @@ static gsym_answer harmed_lookup(const uint8_t *file, size_t len, uint64_t addr,
     case 37: if (a.number == 0 && a.addr > 0 && (a.size == 0 || addr - a.addr + 1 < a.size)) a.addr--; break;
     case 38: if (a.number == 0 && a.size != 0 && a.size < UINT32_MAX) a.size++; break;
     case 39: if (a.number == 0 && a.count == 0) memset(&a, 0, sizeof a), a.number = 6; break;
+    case 41: if (a.number == 15 && (options & 3) == 3) a.number = 10; break;
+    case 42: if (a.number == 15 && (options & 3) == 1) a.number = 9; break;
     default: break;
     }
     (void)seen;
@@ -113,6 +115,8 @@ static gsym_listed harmed_frames(const uint8_t *block, size_t len, uint64_t symb
     case 23: if (a.count > 0) frames[0].name = 0; break;
     case 24: if (a.count > 0) frames[0].call_line += calls % 2; break;
     case 25: if (a.count > 0 && a.count < room) a.count = 0, a.number = 14; break;
+    case 43: if (a.number == 15) a.number = 10; break;
+    case 44: if (a.number == 10) a.number = 15; break;
     default: break;
     }
     (void)seen;
@@ -139,6 +143,7 @@ static gsym_finding harmed_check(const uint8_t *file, size_t len)
             if (entry_of(file, k) == entry_of(file, k - 1))
                 f.number = GSYM_FALLING_TABLE, f.entry = (uint32_t)k;
         break;
+    case 45: if (f.number == 15) f.number = 10; break;
     default: break;
     }
     (void)seen;

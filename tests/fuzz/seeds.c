@@ -2,7 +2,8 @@
  * seeds.c - the first inputs of the fuzzing target: `seeds FOLDER FILE...`. Of each symbol file: lookups inside symbols
  * spread over its table, at their starts and past their ends, with room for all and for few frames, the inline items of
  * these symbols as blocks of their own, and its first bytes alone. A large file gives fewer inputs than a small one,
- * and a small one some in which an entry of its address table is the same as the one before it.
+ * and a small one some in which an entry of its address table is the same as the one before it, and some in which an
+ * entry's line table or inline tree has a number that is too wide, or cut before its tenth byte.
  */
 #include "head.h"
 
@@ -67,6 +68,42 @@ static void twin_seeds(bytes f, shape s, size_t entry)
     memcpy(at, kept, s.width);
 }
 
+/* an entry whose list, behind the file's end, has one item with a number of ten bytes that is too wide, or of nine that
+ * are cut: asked with all options and with code info alone, and the item as a block */
+static void wide_seeds(bytes f, shape s, size_t entry)
+{
+    static const struct {
+        uint8_t kind, len, front[10];
+    } items[] = {{1, 0, {0}},
+                 {1, 2, {0, 0}},
+                 {2, 0, {0}},
+                 {2, 1, {1}},
+                 {2, 9, {1, 0, 32, 0, 1, 0, 0, 0, 1}},
+                 {2, 10, {1, 0, 32, 1, 0, 0, 0, 0, 1, 1}}};
+    static uint8_t kept[FILE_ROOM];
+    uint64_t start = s.base + entry_at(f, s, entry), size = 16, name = read_at(f, data_at(f, s, entry) + 4, 4);
+    memcpy(kept, f.at, f.len);
+    for (size_t k = 0; k < 2 * sizeof items / sizeof items[0]; k++) {
+        uint8_t front = items[k / 2].len, len = (uint8_t)(front + 9 + k % 2), *at = input + HEAD + f.len;
+        uint64_t numbers[] = {size, name, items[k / 2].kind, len};
+        for (int i = 0; i < 16; i++)
+            at[i] = (uint8_t)(numbers[i / 4] >> (8 * (i % 4)));
+        memcpy(at + 16, items[k / 2].front, front);
+        memset(at + 16 + front, 0x80, len - front);
+        memset(at + 16 + len, 0, 8);
+        for (int i = 0; i < 4; i++)
+            input[HEAD + s.offsets + 4 * entry + (size_t)i] = (uint8_t)(f.len >> (8 * i));
+        for (int options = 1; options <= 3; options += 2) {
+            set_head(4, options, entry, 3, 80, 1, 0);
+            write_seed(f.len + 16 + len + 8);
+        }
+        memmove(input + HEAD, at + 16, len);
+        set_head(0, 3, 0, 3, 80, 1, start);
+        write_seed(len);
+        memcpy(input + HEAD, kept, f.len);
+    }
+}
+
 int main(int n, char **words)
 {
     if (n < 3) {
@@ -95,6 +132,8 @@ int main(int n, char **words)
             }
             if (len < 4000 && i > 0)
                 twin_seeds(f, s, i);
+            if (len < 4000 && i == 0)
+                wide_seeds(f, s, i);
             block_seeds(f, s, i);
         }
         set_head(0, 0, 0, 0, 0, 1, s.base);

@@ -45,7 +45,7 @@ static bytes word_of(const uint8_t *head, bytes file, uint64_t addr, uint64_t ba
     return (bytes){file.at + file.len - len, len};
 }
 
-static uint64_t calls, looks[15], lists[15], found[25], unchecked;
+static uint64_t calls, looks[16], lists[16], found[25], unchecked;
 
 /* A check reads a list once for each entry that names it. A file whose entries name more bytes than this, some fifteen
  * times what the longest input has, is not checked: one of 70,000 bytes can be made to take 0.3 seconds, and more under
@@ -56,14 +56,14 @@ enum { MOST_NAMED = 1 << 20 };
 static void say_numbers(void)
 {
     fprintf(stderr, "numbers: %llu calls; of lookups", (unsigned long long)calls);
-    for (int i = 0; i < 15; i++)
+    for (int i = 0; i < 16; i++)
         fprintf(stderr, "%s %d: %llu", i == 0 ? "" : ",", i, (unsigned long long)looks[i]);
     fprintf(stderr, "; of blocks 0: %llu", (unsigned long long)lists[0]);
-    for (int i = 10; i < 15; i++)
+    for (int i = 10; i < 16; i++)
         fprintf(stderr, ", %d: %llu", i, (unsigned long long)lists[i]);
     fprintf(stderr, "; of checks 0: %llu", (unsigned long long)found[0]);
     for (int i = 1; i < 25; i++)
-        if (i < 7 ? i > 1 : i > 8 && (i < 14 || i > 19))
+        if (i < 7 ? i > 1 : i > 8 && (i < 14 || i == 15 || i > 19))
             fprintf(stderr, ", %d: %llu", i, (unsigned long long)found[i]);
     fprintf(stderr, ", unchecked: %llu\n", (unsigned long long)unchecked);
 }

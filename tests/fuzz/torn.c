@@ -1,18 +1,19 @@
 /*
  * torn.c - symbol files cut short: `torn FILE...`. Each prefix of each file, from 0 bytes to the whole, ends at a page
  * without access, is checked, and is asked at 20 addresses, with all options and room for 64 frames, with code info
- * alone, and with nothing: every lookup ends in an answer or in a refusal from 1 to 14, judged by checks.h (so a
+ * alone, and with nothing: every lookup ends in an answer or in a refusal from 1 to 15, judged by checks.h (so a
  * refusal leaves the list as it was). Without code info a prefix answers as the whole file does, or refuses with 2 or
- * 5. A check finds in a prefix what it finds in the whole file, or 2, 5 or 24 of no later entry: 2 exactly where a
- * table is cut. A prefix passes exactly where the whole file does and tables and lists are in it, each list up to the
- * type 0 that ends it, whose length is not judged. Prints how often each number came; a failed check aborts.
+ * 5; 9 to 15, for an item, it gives where the whole file does alone. A check finds in a prefix what it finds in the
+ * whole file, or 2, 5 or 24 of no later entry: 2 exactly where a table is cut. A prefix passes exactly where the whole
+ * file does and tables and lists are in it, each list up to the type 0 that ends it, whose length is not judged. Prints
+ * how often each number came; a failed check aborts.
  */
 #include "head.h"
 
 enum { ADDRESSES = 20 };
 
 static uint8_t whole[FILE_ROOM];
-static uint64_t times[15], found[25], prefixes, lookups;
+static uint64_t times[16], found[25], prefixes, lookups;
 
 /* what is known of the whole file */
 typedef struct whole_file {
@@ -21,6 +22,7 @@ typedef struct whole_file {
     size_t tables, needed; /* the ends of the tables, and of all that a file that passes needs */
     uint64_t addresses[ADDRESSES];
     gsym_answer answers[ADDRESSES];
+    uint32_t numbers[ADDRESSES]; /* with all options */
 } whole_file;
 
 static size_t later(size_t a, size_t b) { return a < b ? b : a; }
@@ -84,6 +86,7 @@ static void tear(const whole_file *w, size_t len)
         HOLDS(a.number == 2 || a.number == 5 ||
                   (a.number == b.number && a.addr == b.addr && a.size == b.size && same_text(a.name, b.name)),
               "without code info a prefix answers as the whole file does, or 2 or 5");
+        HOLDS(all.a.number < 9 || all.a.number == w->numbers[i], "9 to 15 are given in a prefix as in the whole file");
         HOLDS(all.a.number != 0 || (code.a.number == 0 && code.a.addr == all.a.addr && code.a.size == all.a.size),
               "a lookup succeeds without inlining where one with it does");
         HOLDS(code.a.number != 0 || (a.number == 0 && a.addr == code.a.addr && a.size == code.a.size),
@@ -108,14 +111,16 @@ int main(int n, char **words)
         measure(&w);
         bytes f = lend_file(whole, len, 1);
         w.finding = check_whole(f, 1, &calls);
-        for (int i = 0; i < ADDRESSES; i++)
+        for (int i = 0; i < ADDRESSES; i++) {
             w.answers[i] = look(f, w.addresses[i], 0, 0, 1).a;
+            w.numbers[i] = look(f, w.addresses[i], ALL_OPTIONS, GSYM_MAX_FRAMES, 1).a.number;
+        }
         for (size_t cut = 0; cut <= len; cut++)
             tear(&w, cut);
     }
     printf("torn: %d files, %llu prefixes, %llu lookups, all well; times of each number:", n - 1,
            (unsigned long long)prefixes, (unsigned long long)lookups);
-    for (uint32_t i = 0; i <= 14; i++)
+    for (uint32_t i = 0; i <= 15; i++)
         if (times[i] > 0)
             printf("%s %u: %llu", i == 0 ? "" : ",", i, (unsigned long long)times[i]);
     printf("; of checks");

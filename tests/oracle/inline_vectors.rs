@@ -236,7 +236,130 @@ fn main() {
         d.truncate(at);
         d.extend(&too_wide);
         d.extend([0, 0x20, 0, 1, 0, 0, 0, 0, 0]);
-        o.ruled(&d, 0x1000, 0x1001, 64, 'r', 10);
+        o.ruled(&d, 0x1000, 0x1001, 64, 'r', 15);
     }
+    in_each_place(&mut o);
+    which_comes_first(&mut o);
     print!("{}", o.0);
+}
+
+const PLACES: usize = 7;
+
+// A node of two ranges, 0 to 0x20 and 0x40 to 0x48, with one of its numbers written otherwise: range count, offset and
+// size of the first and of the second, call file, call line. The bytes up to the end of that number, and all.
+fn node_with(place: usize, number: &[u8]) -> (Vec<u8>, Vec<u8>) {
+    let mut parts = [2, 0, 0x20, 0x40, 8, 3, 9].map(|n| vec![n]);
+    parts[place] = number.to_vec();
+    let before = if place > 4 { vec![0, 7, 0, 0, 0] } else { vec![] };
+    let cut = [parts[..place.min(5)].concat(), before, parts[place.min(5)..=place].concat()].concat();
+    (cut, [parts[..5].concat(), vec![0, 7, 0, 0, 0], parts[5..].concat()].concat())
+}
+
+// Nine bytes and one more.
+fn ten(fill: u8, last: u8) -> Vec<u8> {
+    let mut out = vec![fill; 9];
+    out.push(last);
+    out
+}
+
+// What stands before a node in a block that is asked at 0x1001: nothing, where it is the root; a root that contains the
+// address, where it is judged too; a root that doesn't, below which it is passed over.
+const ABOVE: [&[u8]; 3] = [&[], &[1, 0, 0x20, 1, 1, 0, 0, 0, 0, 0], &[1, 0x20, 0x20, 1, 1, 0, 0, 0, 0, 0]];
+
+fn in_each_place(o: &mut Out) {
+    o.remark("in each place of a node, the root, an open child and below a closed node: nine bytes and the end: short");
+    for above in ABOVE {
+        for place in 0..PLACES {
+            for fill in [0x80, 0xff] {
+                o.outcome(&[above, &node_with(place, &[fill; 9]).0].concat(), 0x1000, 0x1001);
+            }
+        }
+    }
+    o.remark("numbers of ten bytes that fit, in each place of a node: as short as they may be padded, and the largest");
+    for above in ABOVE {
+        for (place, value) in [2, 0, 0x20, 0x40, 8, 3, 9].into_iter().enumerate() {
+            let mut padded = ten(0x80, 0);
+            padded[0] |= value;
+            for number in [padded, ten(0x80, 1), ten(0xff, 0), ten(0xff, 1)] {
+                o.block(&[above, &node_with(place, &number).1, &[0]].concat(), 0x1000, 0x1001);
+            }
+        }
+    }
+    o.remark("outside the domain, answered by RULES: too wide in each place of a node, with its rest and without");
+    for above in ABOVE {
+        for place in 0..PLACES {
+            for (fill, last) in [(0x80, 2), (0xff, 0x7f), (0x80, 0x80), (0xff, 0xff), (0x80, 0x81)] {
+                let (cut, whole) = node_with(place, &ten(fill, last));
+                o.ruled(&[above, &cut].concat(), 0x1000, 0x1001, 64, 'r', 15);
+                o.ruled(&[above, &whole, &[0]].concat(), 0x1000, 0x1001, 64, 'r', 15);
+            }
+        }
+    }
+    o.remark("outside the domain, answered by RULES: too wide where the end of a list could stand");
+    for above in &ABOVE[1..] {
+        let leaf = [1, 0, 8, 0, 2, 0, 0, 0, 1, 1];
+        o.ruled(&[above, &leaf[..], &ten(0x80, 0x80)].concat(), 0x1000, 0x1001, 64, 'r', 15);
+        o.outcome(&[above, &leaf[..], &ten(0x80, 0)].concat(), 0x1000, 0x1001);
+        o.outcome(&[above, &leaf[..], &[0x80; 9]].concat(), 0x1000, 0x1001);
+    }
+}
+
+// Levels below each other down to this one, and a node there that is asked at the first's address.
+fn below(levels: u32, last: &[u8]) -> Vec<u8> {
+    let mut out = bytes(&chain(levels, |_| 0));
+    let ends = levels as usize - 1;
+    out.truncate(out.len() - ends);
+    let kids = out.len() - 7; // the last node's children byte, name, call file and call line
+    out[kids] = 1;
+    out.extend(last);
+    out
+}
+
+fn which_comes_first(o: &mut Out) {
+    let wide = ten(0x80, 0x80);
+    let top = u64::MAX;
+    let symbol = top - 0xfff;
+    let mut past = vec![];
+    uleb(&mut past, 0x1000);
+    let mut file = vec![];
+    uleb(&mut file, 1 << 32);
+    let closed = [1, 0x20, 0x20, 1, 1, 0, 0, 0, 0, 0];
+    o.remark("outside the domain, answered by RULES: what comes first beside a number that is too wide");
+    // the level before all but the range count
+    o.ruled(&below(64, &wide), 0x1000, 0x1001, 64, 'r', 15);
+    o.ruled(&below(64, &[&[1][..], &wide].concat()), 0x1000, 0x1001, 64, 'r', 13);
+    o.ruled(&below(63, &[&[1][..], &wide].concat()), 0x1000, 0x1001, 64, 'r', 15);
+    // a start and an end are judged when both numbers are read, and before the next range
+    let sums: [(&[&[u8]], u64); 4] = [
+        (&[&[1], &past, &wide], 15),
+        (&[&[2], &past, &[0], &wide], 11),
+        (&[&[2], &[0], &past, &wide], 11),
+        (&[&[2], &[0], &[8], &past, &wide], 15),
+    ];
+    for (parts, number) in sums {
+        let data = parts.concat();
+        o.ruled(&data, symbol, symbol, 64, 'r', number);
+        o.ruled(&[&closed[..], &data].concat(), symbol, symbol, 64, 'r', 15);
+    }
+    // the limit of a call file before the call line; below a closed node it is not judged
+    let front = [1, 0, 0x20, 0, 7, 0, 0, 0];
+    let lined = [&front[..], &file, &wide].concat();
+    o.ruled(&lined, 0x1000, 0x1001, 64, 'r', 12);
+    o.ruled(&lined, 0x1000, 0x2000, 64, 'r', 12);
+    o.ruled(&[&closed[..], &lined].concat(), 0x1000, 0x1001, 64, 'r', 15);
+    // a call file that is too wide is no call file above the limit, and reads as one where it fits
+    o.ruled(&[&front[..], &wide, &[0]].concat(), 0x1000, 0x1001, 64, 'r', 15);
+    o.outcome(&[&front[..], &ten(0xff, 1), &[0]].concat(), 0x1000, 0x1001);
+    // room after the call line; in the parent before its children
+    o.ruled(&[&front[..], &[3], &wide].concat(), 0x1000, 0x1001, 0, 'r', 15);
+    o.ruled(&[&front[..], &[3, 9]].concat(), 0x1000, 0x1001, 0, 'r', 14);
+    let with_kids = [&[1, 0, 0x20, 1, 7, 0, 0, 0, 3, 9][..], &wide].concat();
+    o.ruled(&with_kids, 0x1000, 0x1001, 0, 'r', 14);
+    o.ruled(&with_kids, 0x1000, 0x1001, 1, 'r', 15);
+    o.ruled(&with_kids, 0x1000, 0x2000, 0, 'r', 15);
+    // what stands behind it is not read
+    o.ruled(&[&wide[..], &[0x80; 3]].concat(), 0x1000, 0x1001, 64, 'r', 15);
+    o.remark("behind the root's end a number that is too wide is not read");
+    o.block(&[&front[..], &[3, 9], &wide].concat(), 0x1000, 0x1001);
+    o.block(&[&[0][..], &wide].concat(), 0x1000, 0x1001);
 }

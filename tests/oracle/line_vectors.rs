@@ -230,5 +230,108 @@ fn main() {
         o.case('o', &data, 0x1000, 1, 'x', [0; 4]);
         o.case('L', &data, 0x1000, 0x1005, 'v', [0x1001, 1, 5, 0]);
     }
+    in_each_place(&mut o);
     print!("{}", o.0);
+}
+
+// The bytes of a header of min 1, max 9 and first line 5, with the number at `place` written otherwise.
+fn header_with(place: usize, number: &[u8]) -> Vec<u8> {
+    let mut parts = [vec![1], vec![9], vec![5]];
+    parts[place] = number.to_vec();
+    parts.concat()
+}
+
+// Nine bytes and one more.
+fn ten(fill: u8, last: u8) -> Vec<u8> {
+    let mut out = vec![fill; 9];
+    out.push(last);
+    out
+}
+
+fn in_each_place(o: &mut Out) {
+    let row = [2, 1, 0];
+    o.remark("in each place of a header: nine bytes that all ask for another, and the end: short");
+    for place in 0..3 {
+        for fill in [0x80, 0xff] {
+            let whole = header_with(place, &[fill; 9]);
+            let data = &whole[..place + 9];
+            o.header(data);
+            o.row(data, 0x1000, 0x1001);
+        }
+    }
+    o.remark("a first line of ten bytes that fits");
+    for (fill, last) in [(0x80, 0), (0x80, 1), (0xff, 0), (0xff, 1)] {
+        let data = [header_with(2, &ten(fill, last)), row.to_vec()].concat();
+        o.header(&data);
+        o.row(&data, 0x1000, 0x1001);
+    }
+    o.remark("outside the domain, answered by RULES: min and max of ten bytes that fit; the Rust reads these alike");
+    let most = i64::MAX as u64;
+    for (fill, last, value) in
+        [(0x80, 0, 0), (0x80, 0x7f, 1 << 63), (0xff, 0, most), (0xff, 0x7f, u64::MAX)]
+    {
+        for place in 0..2 {
+            let data = [header_with(place, &ten(fill, last)), row.to_vec()].concat();
+            let (min, max) = if place == 0 { (value, 9) } else { (1, value) };
+            o.case('H', &data, 0, 0, 'v', [min, max, 5, 12]);
+            o.case('L', &data, 0x1000, 0x1001, 'v', [0x1001, 1, 5, 0]);
+            let (by_rust, next) = facade::header(&data).unwrap();
+            assert_eq!((by_rust.min_delta as u64, by_rust.max_delta as u64, next), (min, max, 12));
+        }
+    }
+    o.remark("outside the domain, answered by RULES: too wide in each place of a header, whatever is behind it");
+    for place in 0..3 {
+        let by_value: &[(u8, u8)] = if place < 2 {
+            &[(0x80, 1), (0x80, 0x7e), (0xff, 1), (0xff, 2), (0xff, 0x3f), (0xff, 0x40), (0xff, 0x7e)]
+        } else {
+            &[(0x80, 2), (0x80, 0x7f), (0xff, 2), (0xff, 0x40), (0xff, 0x7f)]
+        };
+        for (fill, last) in by_value.iter().copied().chain([(0x80, 0x80), (0xff, 0xff), (0x80, 0x81)]) {
+            let whole = header_with(place, &ten(fill, last));
+            for data in [&whole[..place + 10], &whole[..], &[&whole[..], &row].concat()[..]] {
+                o.case('H', data, 0, 0, 'w', [0; 4]);
+                o.case('L', data, 0x1000, 0x1001, 'w', [0; 4]);
+            }
+        }
+    }
+    o.remark("outside the domain, answered by RULES: the first number that doesn't read decides");
+    for first in 0..2 {
+        for second in first + 1..3 {
+            let mut parts = [vec![1], vec![9], vec![5]];
+            parts[first] = ten(0x80, 0x80);
+            parts[second] = vec![0x80; 3];
+            let data = parts[..=second].concat();
+            o.case('H', &data, 0, 0, 'w', [0; 4]);
+            o.case('L', &data, 0x1000, 0x1001, 'w', [0; 4]);
+        }
+    }
+    o.remark("operands of nine bytes that all ask for another, and the end; of ten bytes that fit");
+    for op in [1u8, 2, 3] {
+        for fill in [0x80, 0xff] {
+            let ops = [&[2, 1, op][..], &[fill; 9]].concat();
+            o.program(0, 0, 5, &ops, 0x1000, &[0x1005]);
+        }
+    }
+    for op in [1u8, 2] {
+        for (fill, last) in [(0x80, 0), (0x80, 1), (0xff, 0), (0xff, 1)] {
+            let ops = [&[2, 1, op][..], &ten(fill, last), &[2, 1, 0]].concat();
+            o.program(0, 0, 5, &ops, 0x1000, &[0x1001, 0x1005, u64::MAX]);
+        }
+    }
+    o.remark("outside the domain, answered by RULES: a line change of ten bytes that fits");
+    for (fill, last, line) in [(0x80, 0, 5), (0x80, 0x7f, 5), (0xff, 0, 4), (0xff, 0x7f, 4)] {
+        let data = [&[0, 0, 5, 3][..], &ten(fill, last), &[2, 1, 0]].concat();
+        o.case('o', &data, 0x1000, 0, 'o', [0x1000, 1, line, 14]);
+        o.case('L', &data, 0x1000, 0x1001, 'v', [0x1001, 1, line, 0]);
+    }
+    o.remark("outside the domain, answered by RULES: an operand whose tenth byte asks for another ends the program");
+    for op in [1u8, 2, 3] {
+        for fill in [0x80, 0xff] {
+            for more in [&[][..], &[0], &[2, 1, 0]] {
+                let data = [&[0, 0, 5, 2, 1, op][..], &[fill; 10], more].concat();
+                o.case('o', &data, 0x1000, 1, 'x', [0; 4]);
+                o.case('L', &data, 0x1000, 0x1005, 'v', [0x1001, 1, 5, 0]);
+            }
+        }
+    }
 }

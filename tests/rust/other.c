@@ -20,7 +20,7 @@ gsym_answer gsym_lookup(const uint8_t *file, size_t file_len, uint64_t addr, uin
     if (addr == 0)
         answer.number = GSYM_UNKNOWN_ADDRESS;
     else if (addr == 1)
-        answer.number = 15;
+        answer.number = 16;
     else if (addr == 2)
         answer.number = UINT32_MAX;
     else

@@ -7,7 +7,7 @@ fn main() {
     let mut frames = [Frame::default(); 3];
     let mut look = |addr| lookup(file, addr, Options::ALL, &mut frames);
     assert_eq!(look(0), Err(Refusal::UnknownAddress));
-    for (addr, number) in [(1, 15), (2, u32::MAX)] {
+    for (addr, number) in [(1, 16), (2, u32::MAX)] {
         let refusal = look(addr).unwrap_err();
         assert!(matches!(refusal, Refusal::Other { .. }));
         assert_eq!((refusal.number(), refusal.text()), (number, "a refusal of a later library"));
@@ -21,14 +21,14 @@ fn main() {
     assert_eq!(block_frames(file, 0, 1, &mut list).unwrap_err().number(), 99);
     let resolver = Resolver::new(&file[..]).unwrap();
     assert_eq!(resolver.find_sym(0, &FindSymOpts::Basic), Ok(Err(Reason::UnknownAddr)));
-    assert_eq!(resolver.find_sym(1, &FindSymOpts::Basic).unwrap_err().number(), 15);
+    assert_eq!(resolver.find_sym(1, &FindSymOpts::Basic).unwrap_err().number(), 16);
     assert_eq!(resolver.find_sym(3, &FindSymOpts::CodeInfoAndInlined).unwrap().unwrap().inlined.len(), 64);
     assert_eq!(check(&[]), Ok(()));
     assert_eq!(check(&[0; 3]), Err(Finding::Tables(Refusal::WrongMagic)));
-    for (len, number) in [(4, u32::MAX), (14, 14), (15, 15), (25, 25), (99, 99)] {
+    for (len, number) in [(4, u32::MAX), (14, 14), (15, 15), (16, 16), (25, 25), (99, 99)] {
         let found = check(&[0; 99][..len]).unwrap_err();
         assert_eq!(found.number(), number);
-        if number > 14 {
+        if number > 15 {
             assert_eq!(found, Finding::Other { number, entry: u32::MAX });
             assert_eq!(found.to_string(), format!("a finding of a later library, number {}", number));
         } else {

@@ -1,7 +1,7 @@
 #!/bin/sh
-# Holds the stored vectors to what makes them, the whole lookups to RULES written down once more, and all to
-# Rust's standard library and the unchanged Rust, where this machine has Python, a Rust compiler, the sources and the
-# real files; says so in plain words where it has not.
+# Holds the stored vectors to what makes them, the whole lookups, line tables and inline blocks to RULES written down
+# once more, and all to Rust's standard library and the unchanged Rust, where this machine has Python, a Rust compiler,
+# the sources and the real files; says so in plain words where it has not.
 set -u
 cd "$(dirname "$0")/../.." || exit 2
 vectors=crates/reader_cases/stdin
@@ -12,6 +12,7 @@ if command -v python3 >/dev/null 2>&1; then
     cmp "$tmp/made" "$vectors" || { echo "vectors: $vectors is not what tests/vectors/all.sh writes"; exit 1; }
     echo "vectors: $vectors is what tests/vectors/all.sh writes"
     python3 tests/vectors/lookup_model.py <crates/lookup_cases/stdin || exit 1
+    python3 tests/vectors/lookup_model.py parts <"$vectors" || exit 1
 else
     echo "vectors: no python3 here, so $vectors was not made again, and no lookup was held to RULES"
 fi

@@ -1,7 +1,7 @@
 #!/usr/bin/env python3
 """RULES written down once more: `lookup` is a lookup, `check` the check of a file. As a program it holds the vectors of
 whole lookups to the page: reads them on standard input, answers each case by the rules as the page words them, and says
-how many differ."""
+how many differ. `lookup_model.py parts` does so with those of line headers, line tables and inline blocks."""
 import sys
 
 
@@ -20,10 +20,10 @@ def le(data, at, n, number):
 
 
 class Bytes:
-    """A block with a cursor; what doesn't read is a refusal of this number."""
+    """A block with a cursor: `number` refuses what the bytes end before, `wide` a number of more than 64 bits."""
 
-    def __init__(self, data, number):
-        self.data, self.at, self.number = data, 0, number
+    def __init__(self, data, number, wide=15):
+        self.data, self.at, self.number, self.wide = data, 0, number, wide
 
     def fixed(self, n):
         value = le(self.data, self.at, n, self.number)
@@ -38,9 +38,9 @@ class Bytes:
             if byte < 0x80:
                 if signed and byte & 0x40:
                     value -= 1 << 7 * (i + 1)
-                need(-(2**63) <= value < 2**63 if signed else value < 2**64, self.number)
+                need(-(2**63) <= value < 2**63 if signed else value < 2**64, self.wide)
                 return value
-        raise Refused(self.number)
+        raise Refused(self.wide)
 
 
 def text(file, strings, offset, number, utf8=False):
@@ -61,17 +61,23 @@ def quotient(a, b):
     return q if (a < 0) == (b < 0) else -q
 
 
+def header(b):
+    """The least line change, the greatest, and the first line."""
+    return b.leb(True), b.leb(True), b.leb() % 2**32
+
+
 def line_table(block):
     """The header: the least line change, the range and the first line; and the steps of the program."""
     b = Bytes(block, 9)
-    low, high, line = b.leb(True), b.leb(True), b.leb() % 2**32
+    low, high, line = header(b)
     span = (high - low + 1 + 2**63) % 2**64 - 2**63
     return low, span, line, steps(b, span)
 
 
 def steps(b, span):
-    """Each opcode with its operand, of a special opcode a, up to opcode 0 or the end of the bytes. A stop is 23."""
-    b.number = 23
+    """Each opcode with its operand, of a special opcode a, up to opcode 0 or the end of the bytes. A stop is 23, and so
+    is an operand that is too wide."""
+    b.number = b.wide = 23
     while b.at < len(b.data):
         op = b.fixed(1)
         if op == 0:
@@ -282,8 +288,47 @@ def digest(numbers):
     return d
 
 
+def part(kind, data, p, q, r):
+    """A case of crates/reader_cases: its tag and its numbers. Nothing is said of the address of a row."""
+    b = Bytes(data, 9)
+    try:
+        if kind == "H":
+            low, high, line = header(b)
+            return "v", [low % 2**64, high % 2**64, line, b.at]
+        if kind == "L":
+            row = row_of(data, p, q)
+            return ("v", [None, *row, 0]) if row else ("-", [0] * 4)
+        frames = frames_of(data, p, q, min(64, r) if kind == "B" else 64)
+        return "v", [len(frames), 0, 0, 0] if kind == "B" else [*frames[r], 0]
+    except Refused as refused:
+        number = refused.args[0]
+        return ("r", [number, 0, 0, 0]) if kind in "BF" else ({9: "s", 15: "w"}[number], [0] * 4)
+
+
+def parts():
+    judged = differ = without = 0
+    for line in sys.stdin:
+        if line.startswith("#"):
+            continue
+        kind, data, *words = line.split()
+        if kind not in ("B", "F", "H", "L"):
+            without += 1
+            continue
+        p, q, r = (int(w, 16) for w in words[:3])
+        tag, numbers = part(kind, b"" if data == "." else bytes.fromhex(data), p, q, r)
+        want = [int(w, 16) for w in words[4:]]
+        judged += 1
+        if tag != words[3] or any(n not in (None, w) for n, w in zip(numbers, want, strict=True)):
+            differ += 1
+            print(f"{line}  RULES: {tag}", numbers)
+    print(f"parts by RULES: {judged} cases, {differ} differ, no answer to {without}")
+    return 1 if differ or not judged else 0
+
+
 def main():
     sys.setrecursionlimit(10000)
+    if sys.argv[1:] == ["parts"]:
+        return parts()
     file, cases, differ, records = b"", 0, 0, []
     for line in sys.stdin.read().split("\n"):
         kind, words = line[:1], line[2:].split(" ")

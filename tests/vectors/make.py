@@ -61,6 +61,16 @@ def both(data, at=0):
         case(kind, data, at, tag=tag, a=a, b=b)
 
 
+def written(value, pad):
+    """A number's bytes, as few as a signed reader needs, and so many more that are padding."""
+    out = b''
+    while not -64 <= value < 64 or pad > 0:
+        pad -= -64 <= value < 64
+        out += bytes([value & 0x7f | 0x80])
+        value >>= 7
+    return out + bytes([value & 0x7f])
+
+
 def leb128():
     remark('DWARF 5, figure 22: unsigned')
     for data, value in (('02', 2), ('7f', 127), ('8001', 128), ('8101', 129), ('b964', 12857)):
@@ -98,6 +108,19 @@ def leb128():
             for last in (0x00, 0x01, 0x02, 0x03, 0x3f, 0x40, 0x7d, 0x7e, 0x7f, 0x80, 0x81, 0xff):
                 both(bytes([fill] * (n - 1) + [last]))
                 both(bytes([fill] * (n - 1) + [last, 0x00]))
+    remark('two bytes and three: the values at each edge, as short as they may be and padded, and cut')
+    for bits in (6, 7, 13, 14, 20, 21):
+        for value in (2**bits - 1, 2**bits, 2**bits + 1):
+            for pad in (0, 1):
+                for data in (written(value, pad), written(-value, pad)):
+                    both(data)
+                both(written(value, pad)[:-1])
+    remark('two bytes, three and four: each byte at its edges, and the place after it')
+    for front in ((0x80,), (0x81,), (0xbf,), (0xc0,), (0xff,), (0x80, 0x80), (0x80, 0xff), (0xff, 0x80), (0xff, 0xff),
+                  (0x81, 0x80), (0x80, 0x81), (0xc0, 0xbf), (0xbf, 0xc0), (0x80,) * 3, (0xff,) * 3):
+        for last in (0x00, 0x01, 0x02, 0x3f, 0x40, 0x41, 0x7e, 0x7f):
+            both(bytes([*front, last]))
+            both(bytes([0x7f, *front, last, 0xff]), 1)
     remark('a number in the middle, and the place after it')
     data = bytes.fromhex('80ffb964807f00e58e26c0bb78ff')
     for at in range(len(data) + 1):

@@ -13,7 +13,7 @@ pub enum Fault {
     StoppedProgram,
     /// The address data list doesn't end in type 0.
     OpenList,
-    /// One that has a refusal's number: 5, 6, 9 to 13.
+    /// One that has a refusal's number: 5, 6, 9 to 13, 15.
     Refused(Refusal),
 }
 
@@ -145,17 +145,19 @@ mod tests {
                 Finding::OffsetSize => assert_eq!(number, 20),
                 Finding::Entry { index, fault } => {
                     assert_eq!((index, fault.number()), (7, number));
-                    assert_eq!(matches!(fault, Fault::Refused(_)), number <= 14);
-                    assert!(number <= 14 || (21..=24).contains(&number));
+                    assert_eq!(matches!(fault, Fault::Refused(_)), number <= 15);
+                    assert!(number <= 15 || (21..=24).contains(&number));
                     assert!(!(2..=4).contains(&number) && !fault.text().is_empty());
                 }
                 Finding::Other { number: told, entry } => {
                     assert_eq!((told, entry), (number, 7));
-                    assert!(number > 14 && !(20..=24).contains(&number));
+                    assert!(number > 15 && !(20..=24).contains(&number));
                 }
             }
         }
         assert_eq!(Fault::of(0), None);
         assert_eq!(Fault::of(14), Some(Fault::Refused(Refusal::TooManyFrames)));
+        assert_eq!(Fault::of(15), Some(Fault::Refused(Refusal::TooWide)));
+        assert_eq!(Fault::of(16), None);
     }
 }

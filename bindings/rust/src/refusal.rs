@@ -1,6 +1,10 @@
 use core::fmt;
 
 /// Why a call gave no answer; the numbers are those of the C face.
+///
+/// With [`UnreadLineHeader`](Refusal::UnreadLineHeader) and [`UnreadInline`](Refusal::UnreadInline) the bytes of a
+/// header or of a block end too early. [`TooWide`](Refusal::TooWide) comes of no cut: the program that wrote the file
+/// is at fault, or what changed its bytes since.
 #[non_exhaustive]
 #[derive(Clone, Copy, Debug, PartialEq, Eq, Hash, PartialOrd, Ord)]
 pub enum Refusal {
@@ -20,9 +24,9 @@ pub enum Refusal {
     UnknownFile,
     /// A directory or a file name doesn't read.
     UnreadPath,
-    /// The header of a line table doesn't read.
+    /// The header of a line table doesn't read: it is cut short.
     UnreadLineHeader,
-    /// An inline block doesn't read.
+    /// An inline block doesn't read: it is cut short.
     UnreadInline,
     /// An inline range starts or ends above 2^64-1.
     InlineSumTooLarge,
@@ -32,6 +36,8 @@ pub enum Refusal {
     TooDeep,
     /// More frames than there is room for.
     TooManyFrames,
+    /// A number wider than 64 bits: from a broken producer, not a torn file.
+    TooWide,
     /// One that this crate has no name for, by its number: from a library that is newer than the crate.
     ///
     /// ```
@@ -47,7 +53,7 @@ pub enum Refusal {
 
 impl Refusal {
     /// Every refusal that has a name, by its number: the first is 1.
-    pub const ALL: [Refusal; 14] = [
+    pub const ALL: &'static [Refusal] = &[
         Refusal::UnknownAddress,
         Refusal::TooFewBytes,
         Refusal::WrongMagic,
@@ -62,6 +68,7 @@ impl Refusal {
         Refusal::CallFileTooLarge,
         Refusal::TooDeep,
         Refusal::TooManyFrames,
+        Refusal::TooWide,
     ];
 
     /// The refusal of a number, none for 0.
@@ -89,12 +96,13 @@ impl Refusal {
             Refusal::UnreadName => "the name of the symbol or of an inlined call doesn't read, or is not UTF-8",
             Refusal::UnknownFile => "a file index that is not below the file count",
             Refusal::UnreadPath => "a directory or a file name doesn't read",
-            Refusal::UnreadLineHeader => "the header of a line table doesn't read",
-            Refusal::UnreadInline => "an inline block doesn't read",
+            Refusal::UnreadLineHeader => "the header of a line table doesn't read: it is cut short",
+            Refusal::UnreadInline => "an inline block doesn't read: it is cut short",
             Refusal::InlineSumTooLarge => "an inline range starts or ends above 2^64-1",
             Refusal::CallFileTooLarge => "a call file above 4,294,967,295",
             Refusal::TooDeep => "inlined calls on more than 64 levels",
             Refusal::TooManyFrames => "more frames than there is room for",
+            Refusal::TooWide => "a number wider than 64 bits: from a broken producer, not a torn file",
             Refusal::Other(_) => "a refusal of a later library",
         }
     }
@@ -122,7 +130,7 @@ mod tests {
         for number in (1..100).chain([u32::MAX]) {
             let refusal = Refusal::of(number).unwrap();
             assert_eq!(refusal.number(), number);
-            assert_eq!(matches!(refusal, Refusal::Other(_)), number > 14);
+            assert_eq!(matches!(refusal, Refusal::Other(_)), number > 15);
             assert!(!refusal.text().is_empty());
         }
     }

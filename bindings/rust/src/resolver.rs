@@ -115,8 +115,8 @@ impl Resolver {
         check(&self.file)
     }
 
-    /// The symbol of an address. The outer error says that the file is torn or damaged there, the inner one that it has
-    /// no symbol for the address.
+    /// The symbol of an address. The outer error says that the file is torn, damaged or badly made there, the inner one
+    /// that it has no symbol for the address.
     pub fn find_sym(&self, addr: u64, opts: &FindSymOpts) -> Result<Result<ResolvedSym<'_>, Reason>, Refusal> {
         let mut frames = [Frame::default(); MAX_FRAMES];
         let answer = match lookup(&self.file, addr, Options::from(*opts), &mut frames) {

@@ -58,7 +58,8 @@ fn torn_files_are_answered() {
     for cut in 0..file.len() {
         for addr in [0x1000, 0x1065, 0x1155, 0x11d5] {
             let mut frames = [MARK; 64];
-            if lookup(&file[..cut], addr, Options::ALL, &mut frames).is_err() {
+            if let Err(refusal) = lookup(&file[..cut], addr, Options::ALL, &mut frames) {
+                assert_ne!(refusal, Refusal::TooWide);
                 assert_eq!(frames, [MARK; 64]);
             }
         }
@@ -84,12 +85,70 @@ fn marked_examples() {
 }
 
 #[test]
+fn a_block_is_torn_or_too_wide() {
+    // the marked one, by the line of the call in its child, which is closed at 0x100c and passed over at 0x1020
+    let block = |line: &[u8]| {
+        let mut block = vec![1u8, 0, 0x20, 1, 1, 0, 0, 0, 0, 0, 1, 4, 8, 0, 5, 0, 0, 0, 1];
+        block.extend_from_slice(line);
+        block.push(0);
+        block
+    };
+    let mark = InlineFrame { name: 9, call_file: 9, call_line: 9 };
+    let nine_and = |tenth: u8| [0xff, 0xff, 0xff, 0xff, 0xff, 0xff, 0xff, 0xff, 0xff, tenth];
+    for (addr, count) in [(0x1005, 2), (0x100c, 1), (0x1020, 0)] {
+        let mut list = [mark; 3];
+        // 2^64-1, which is told as the largest line
+        let reads = block(&nine_and(1));
+        assert_eq!(block_frames(&reads, 0x1000, addr, &mut list), Ok(count));
+        assert!(count < 2 || list[1].call_line == u32::MAX);
+        let mut list = [mark; 3];
+        // above it, and what asks for an eleventh byte
+        for tenth in [2, 0x7f, 0x80, 0xff] {
+            let wide = block(&nine_and(tenth));
+            assert_eq!(block_frames(&wide, 0x1000, addr, &mut list), Err(Refusal::TooWide));
+            // cut before its tenth byte it is torn
+            for cut in 0..wide.len() - 1 {
+                assert_eq!(block_frames(&wide[..cut], 0x1000, addr, &mut list), Err(Refusal::UnreadInline));
+            }
+        }
+        for cut in 0..reads.len() {
+            assert_eq!(block_frames(&reads[..cut], 0x1000, addr, &mut list), Err(Refusal::UnreadInline));
+        }
+        assert_eq!(list, [mark; 3]);
+    }
+}
+
+#[test]
+fn a_lookup_is_torn_or_too_wide() {
+    let refused = |changes: &[(usize, &[u8])], addr, options| {
+        let mut file = good();
+        for (place, bytes) in changes {
+            put(&mut file, *place, bytes);
+        }
+        lookup(&file, addr, options, &mut [MARK; 64]).err()
+    };
+    // the first number of a line table's header, and the header cut to two bytes
+    for options in [Options::CODE_INFO, Options::ALL] {
+        assert_eq!(refused(&[(276, &[0xff; 10])], 0x1065, options), Some(Refusal::TooWide));
+        assert_eq!(refused(&[(272, &[2])], 0x1065, options), Some(Refusal::UnreadLineHeader));
+    }
+    assert_eq!(refused(&[(276, &[0xff; 10])], 0x1065, Options::NAME), None);
+    // the last ten bytes of an inline block, and the last nine
+    assert_eq!(refused(&[(372, &[0xff; 10])], 0x1155, Options::ALL), Some(Refusal::TooWide));
+    assert_eq!(refused(&[(373, &[0xff; 9])], 0x1155, Options::ALL), Some(Refusal::UnreadInline));
+    assert_eq!(refused(&[(372, &[0xff; 10])], 0x1155, Options::CODE_INFO), None);
+    // an operand of a line program only ends it
+    assert_eq!(refused(&[(315, &WIDE_OPERAND)], 0x1155, Options::ALL), None);
+}
+
+#[test]
 fn refusals_have_their_numbers() {
     for (i, r) in Refusal::ALL.iter().enumerate() {
         assert_eq!(r.number() as usize, i + 1);
         assert!(!r.text().is_empty());
     }
     assert_eq!(Refusal::TooDeep.to_string(), "inlined calls on more than 64 levels");
+    assert_eq!((Refusal::TooWide.number(), Refusal::ALL.len()), (15, 15));
     assert_eq!((version(), version(), VERSION), (200, 200, 200));
     assert_eq!(check_library(), Ok(()));
 }
@@ -121,6 +180,9 @@ fn good() -> Vec<u8> {
     put(&mut file, 428, &1u32.to_le_bytes());
     file
 }
+
+/// An opcode with a number that asks for an eleventh byte.
+const WIDE_OPERAND: [u8; 11] = [2, 0xff, 0xff, 0xff, 0xff, 0xff, 0xff, 0xff, 0xff, 0xff, 0xff];
 
 fn put(file: &mut [u8], place: usize, bytes: &[u8]) {
     file[place..place + bytes.len()].copy_from_slice(bytes);
@@ -169,11 +231,16 @@ fn a_check_of_the_entries() {
     assert_eq!(found(&[(72, &[0xff; 4])]), refused(3, Refusal::UnreadInfo));
     assert_eq!(found(&[(8, &last)]), Ok(()));
     assert_eq!(found(&[(8, &above)]), entry(4, Fault::SumTooLarge));
-    // items: a special opcode where min and max leave no range, a list that doesn't end, a header, an inline tree
+    // items: a special opcode where min and max leave no range, an operand too wide, a list that doesn't end, a header,
+    // an inline tree
     assert_eq!(found(&[(236, &[0, 0x7f, 10, 4])]), entry(0, Fault::StoppedProgram));
+    assert_eq!(found(&[(315, &WIDE_OPERAND)]), entry(2, Fault::StoppedProgram));
     assert_eq!(found(&[(250, &[9]), (254, &[0xff; 4])]), entry(0, Fault::OpenList));
-    assert_eq!(found(&[(276, &[0xff; 10])]), refused(1, Refusal::UnreadLineHeader));
+    assert_eq!(found(&[(272, &[2])]), refused(1, Refusal::UnreadLineHeader));
+    assert_eq!(found(&[(276, &[0xff; 10])]), refused(1, Refusal::TooWide));
     assert_eq!(found(&[(381, &[1])]), refused(2, Refusal::UnreadInline));
+    assert_eq!(found(&[(373, &[0xff; 9])]), refused(2, Refusal::UnreadInline));
+    assert_eq!(found(&[(372, &[0xff; 10])]), refused(2, Refusal::TooWide));
     assert_eq!(found(&[(8, &last), (350, &[0xff, 0x7f])]), refused(2, Refusal::InlineSumTooLarge));
     assert_eq!(found(&[(368, &[0xff, 0xff, 0xff, 0xff, 0x7f])]), refused(2, Refusal::CallFileTooLarge));
     for levels in [64, 65] {
@@ -196,7 +263,9 @@ fn torn_files_do_not_pass() {
     let file = good();
     // the last entry's list ends the file: type 0, whose length is not judged
     for cut in 0..=file.len() {
-        assert_eq!(check(&file[..cut]).is_ok(), cut + 4 >= file.len());
+        let said = check(&file[..cut]);
+        assert_eq!(said.is_ok(), cut + 4 >= file.len());
+        assert_ne!(said.map_err(Finding::number), Err(Refusal::TooWide.number()));
     }
 }
 
@@ -207,6 +276,9 @@ fn findings_have_their_words() {
     assert_eq!(found.number(), 24);
     let found = Finding::Entry { index: 0, fault: Fault::Refused(Refusal::TooDeep) };
     assert_eq!(found.to_string(), "entry 0: inlined calls on more than 64 levels");
+    let found = Finding::Entry { index: 2, fault: Fault::Refused(Refusal::TooWide) };
+    assert_eq!(found.to_string(), "entry 2: a number wider than 64 bits: from a broken producer, not a torn file");
+    assert_eq!(found.number(), 15);
     assert_eq!(Finding::Tables(Refusal::WrongMagic).to_string(), Refusal::WrongMagic.text());
     assert_eq!(Finding::OffsetSize.to_string(), "an offset size other than 1, 2, 4 and 8");
     let later = Finding::Other { number: 77, entry: 1 };

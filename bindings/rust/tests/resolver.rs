@@ -1,6 +1,6 @@
 //! The resolver that owns a file's bytes, against the calls below it.
 #![cfg(feature = "std")]
-use gsym::{lookup, FindSymOpts, Frame, Options, Reason, Refusal, Resolver};
+use gsym::{lookup, Fault, FindSymOpts, Finding, Frame, Options, Reason, Refusal, Resolver};
 
 const SAMPLE: &str = concat!(env!("CARGO_MANIFEST_DIR"), "/tests/connector.gsym");
 const OPTIONS: [(FindSymOpts, Options); 3] = [
@@ -46,6 +46,19 @@ fn every_address_as_lookup_has_it() {
             }
         }
     }
+}
+
+#[test]
+fn a_number_that_is_too_wide() {
+    // the last ten bytes of the inline block of sync_orders
+    let mut file = std::fs::read(SAMPLE).unwrap();
+    file[372..382].fill(0xff);
+    let resolver = Resolver::new(file).unwrap();
+    assert_eq!(resolver.find_sym(0x1155, &FindSymOpts::CodeInfoAndInlined), Err(Refusal::TooWide));
+    let sym = resolver.find_sym(0x1155, &FindSymOpts::CodeInfo).unwrap().unwrap();
+    assert_eq!((sym.name, sym.code_info.unwrap().line), ("sync_orders", Some(35)));
+    assert!(matches!(resolver.find_sym(0x1065, &FindSymOpts::CodeInfoAndInlined), Ok(Ok(_))));
+    assert_eq!(resolver.check(), Err(Finding::Entry { index: 2, fault: Fault::Refused(Refusal::TooWide) }));
 }
 
 #[test]

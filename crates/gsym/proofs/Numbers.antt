@@ -1,11 +1,11 @@
--- No two refusals have the same number, and none has 0 or one above 14.
+-- No two refusals have the same number, and none has 0 or one above 15.
 -- Assumes nothing.
 use Rattle.std.proofs.Common.{◌≡◌, ◌∙◌, sym, ap, refl, ℕ, ◌≤◌, ◌==◌, arith, if◌then◌else◌}
 use Rattle.gsym_types.specs.declared.Refusal.{Refusal}
 use Rattle.gsym_types.specs.declared.Refusal.TheVariants as refused
 use Rattle.gsym_types.specs.Refusal.{number_of}
 
-pub number_range : (r : Refusal) → (1 ≤ number_of r) × (number_of r ≤ 14)
+pub number_range : (r : Refusal) → (1 ≤ number_of r) × (number_of r ≤ 15)
 number_range refused.UnknownAddress = (omega arith, omega arith)
 number_range refused.TooFewBytes = (omega arith, omega arith)
 number_range refused.WrongMagic = (omega arith, omega arith)
@@ -20,6 +20,7 @@ number_range refused.InlineSumTooLarge = (omega arith, omega arith)
 number_range refused.CallFileTooLarge = (omega arith, omega arith)
 number_range refused.TooDeep = (omega arith, omega arith)
 number_range refused.TooManyFrames = (omega arith, omega arith)
+number_range refused.TooWide = (omega arith, omega arith)
 
 -- the refusal of a number
 abbrev numbered : ℕ → Refusal
@@ -37,7 +38,8 @@ numbered n =
     else if n == 11 then refused.InlineSumTooLarge
     else if n == 12 then refused.CallFileTooLarge
     else if n == 13 then refused.TooDeep
-    else refused.TooManyFrames
+    else if n == 14 then refused.TooManyFrames
+    else refused.TooWide
 
 numbered-back : (r : Refusal) → numbered (number_of r) ≡ r
 numbered-back refused.UnknownAddress = refl
@@ -54,6 +56,7 @@ numbered-back refused.InlineSumTooLarge = refl
 numbered-back refused.CallFileTooLarge = refl
 numbered-back refused.TooDeep = refl
 numbered-back refused.TooManyFrames = refl
+numbered-back refused.TooWide = refl
 
 pub number_same : (r s : Refusal) → number_of r ≡ number_of s → r ≡ s
 number_same r s e = sym (numbered-back r) ∙ ap numbered e ∙ numbered-back s

@@ -13,7 +13,7 @@ use Rattle.gsym_resolver.specs.Lookup.{lookup_of, looked_up, plain_options}
 use Rattle.gsym_resolver.specs.Met.{Met}
 use Rattle.gsym_resolver.proofs.Unasked.{lookup_unasked}
 use Rattle.gsym_resolver.proofs.Calls.{call_refused, call_blocks, call_answered, call_listed, call_covers, call_below}
-use Rattle.gsym_resolver.proofs.Calls.{call_count}
+use Rattle.gsym_resolver.proofs.Calls.{call_count, call_header, call_wide, call_bare, call_plain}
 use Rattle.gsym.specs.Lookups.{records_in, MeetsLookup}
 use Rattle.gsym.proofs.Named.{lookup_named}
 
@@ -38,6 +38,10 @@ promised file addr o (Ok a) old new e stays kept bare =
       refused = refused;
       unmet = answered_unmet (Ok a) (Met file addr o room) refused;
       blocks = tt;
+      header = λ z. absurd cc;
+      wide = λ z. absurd cc;
+      no_code_info = λ i. tt;
+      no_inlining = λ i. tt;
       answered = call_answered file addr o room (Ok a) (take a.count new) e;
       listed = λ l. call_listed file addr o room (Ok a) (take a.count new) e (omega (arith, count));
       covered = call_covers file addr o room (Ok a) (take a.count new) e;
@@ -57,6 +61,10 @@ promised file addr o (Err r) old new e stays kept bare =
       refused = refused;
       unmet = answered_unmet (Err r) (Met file addr o room) refused;
       blocks = call_blocks file addr o room (Err r) [] e;
+      header = call_header file addr o room (Err r) [] e;
+      wide = call_wide file addr o room (Err r) [] e;
+      no_code_info = call_bare file addr o room (Err r) [] e;
+      no_inlining = call_plain file addr o room (Err r) [] e;
       answered = tt;
       listed = tt;
       covered = tt;

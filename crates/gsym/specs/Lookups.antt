@@ -8,14 +8,14 @@ use Rattle.gsym_types.specs.declared.Answer.{Answer}
 use Rattle.gsym_types.specs.declared.Frame.{Frame}
 use Rattle.gsym_types.specs.declared.Options.{Options}
 use Rattle.gsym_types.specs.declared.Refusal.{Refusal}
-use Rattle.gsym_types.specs.declared.Refusal.TheVariants.{TooManyFrames}
+use Rattle.gsym_types.specs.declared.Refusal.TheVariants.{UnreadLineHeader, TooManyFrames, TooWide}
 use Rattle.gsym_types.specs.Refusal.{number_of}
 use Rattle.gsym_inline.specs.Block.{room_of}
 use Rattle.gsym_parser.specs.Entries.{covered_by}
 use Rattle.gsym_resolver.specs.Lookup.{LookedUp, lookup_of, looked_up}
 use Rattle.gsym_resolver.specs.Met.{Met}
 use Rattle.gsym_resolver.specs.Answered.{Answered}
-use Rattle.gsym_resolver.specs.Blocks.{RefusedByBlock, Listed}
+use Rattle.gsym_resolver.specs.Blocks.{RefusedByBlock, RefusedByHeader, Listed}
 use Rattle.gsym.specs.Names.{IsNameIn}
 
 -- an answer with its records, which stand at the front of the list
@@ -39,7 +39,15 @@ pub record MeetsLookup (file : List ℕ) (addr : Address) (o : Options) (result 
     (old new : List Frame) : Type 0 where
   pub refused : (r : Refusal) → IsErrOf result r ↔ Met file addr o (room_of (length old)) r
   pub unmet : IsOk result ↔ ((r : Refusal) → Met file addr o (room_of (length old)) r → ⊥)
-  pub blocks : IfErr result (λ r. 10 ≤ number_of r → RefusedByBlock file addr o (room_of (length old)) r)
+  pub blocks :
+      IfErr result (λ r. 10 ≤ number_of r → number_of r ≤ 14 → RefusedByBlock file addr o (room_of (length old)) r)
+  pub header :
+      IsErrOf result UnreadLineHeader → RefusedByHeader file addr o (room_of (length old)) UnreadLineHeader
+  pub wide : IsErrOf result TooWide →
+      RefusedByBlock file addr o (room_of (length old)) TooWide
+      ⊎ RefusedByHeader file addr o (room_of (length old)) TooWide
+  pub no_code_info : o.code_info ≡ false → IfErr result (λ r. number_of r ≤ 6)
+  pub no_inlining : o.inlining ≡ false → IfErr result (λ r. (number_of r ≤ 9) ⊎ (number_of r ≡ 15))
   pub answered : IfOk result (λ a. Answered file addr o (room_of (length old)) (with_records a new))
   pub listed : IfOk result (λ a. 0 < a.count → Listed file addr o (room_of (length old)) (with_records a new))
   pub covered : IfOk result (λ a. covered_by addr a.addr a.size ≡ true)

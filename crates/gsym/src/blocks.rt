@@ -14,7 +14,7 @@ use gsym_types::{Address, InlineFrame, Refusal};
 /// The frames of one block at an address, for the symbol that the block belongs to, written over the first records of
 /// `frames`: the function, and where it was called; and how many there are. There is room for as many as the list has
 /// places, and for 64 at most. Records past the count stay as they are. A block that doesn't so read is refused for
-/// what comes first in reading order, with one of the refusals 10 to 14, which changes no record (RULES, "Inline
+/// what comes first in reading order, with one of the refusals 10 to 15, which changes no record (RULES, "Inline
 /// tree").
 #[tactic(auto, using(crate::proofs::SingleBlock::block_listed))]
 pub fn block_frames(

@@ -3,13 +3,14 @@
 ghost use Rattle.std.specs.Prelude.{◌≡◌, ◌↔◌, ◌≤◌, ◌<◌, ◌⊎◌, false, true, min, length, take, drop, All, IsOk, IfOk};
 ghost use Rattle.std.specs.Prelude.{IfErr, OnErr, IsErrOf};
 ghost use Rattle.gsym_types.specs.declared.Refusal.{Refusal};
+ghost use Rattle.gsym_types.specs.declared.Refusal.TheVariants.{UnreadLineHeader, TooWide};
 ghost use Rattle.gsym_types.specs.Refusal.{number_of};
 ghost use Rattle.gsym_inline.specs.Block.{room_of};
 ghost use Rattle.gsym_parser.specs.Entries.{covered_by};
 ghost use Rattle.gsym_resolver.specs.Lookup.{lookup_of, looked_up, all_options};
 ghost use Rattle.gsym_resolver.specs.Met.{Met};
 ghost use Rattle.gsym_resolver.specs.Answered.{Answered};
-ghost use Rattle.gsym_resolver.specs.Blocks.{RefusedByBlock, Listed};
+ghost use Rattle.gsym_resolver.specs.Blocks.{RefusedByBlock, RefusedByHeader, Listed};
 ghost use Rattle.gsym.specs.Lookups.{records_in, with_records, has_too_many};
 ghost use Rattle.gsym.specs.Names.{IsNameIn};
 
@@ -19,7 +20,7 @@ use gsym_types::{Address, Answer, Frame, MAX_FRAMES, Options, Refusal};
 /// The symbol of an address with all that is asked for. Each call inlined there but the outermost, which gives the
 /// symbol its name, becomes a record, written over the first ones of `frames`. There is room for as many frames as the
 /// list has places, and for 64 at most; they count the one that becomes no record. Records past the count stay as they
-/// are. Refused with the condition of RULES ("Refusal numbers") that is met first, 1 to 14; a refusal changes no
+/// are. Refused with the condition of RULES ("Refusal numbers") that is met first, 1 to 15; a refusal changes no
 /// record. Without both options the list isn't touched (RULES, "Calls"). Of several symbols at one address the first in
 /// the file answers, at that address and past it, and it alone (RULES, "Finding the entry").
 pub fn lookup(
@@ -34,9 +35,20 @@ pub fn lookup(
     // There is an answer exactly where no condition is met.
     ensures unmet { IsOk result
         ↔ ((r : Refusal) → Met file.now addr options (room_of (length frames.old)) r → ⊥) }
-    // A refusal from 10 on is the first fault of one of the entry's blocks, the first that doesn't list none.
-    ensures blocks { IfErr result (λ r. 10 ≤ number_of r
+    // A refusal from 10 to 14 is the first fault of one of the entry's blocks, the first that doesn't list none.
+    ensures blocks { IfErr result (λ r. 10 ≤ number_of r → number_of r ≤ 14
         → RefusedByBlock file.now addr options (room_of (length frames.old)) r) }
+    // 9 is the header's of one of its line tables, the first that doesn't give none.
+    ensures header { IsErrOf result UnreadLineHeader
+        → RefusedByHeader file.now addr options (room_of (length frames.old)) UnreadLineHeader }
+    // 15 is either's: a number there is too wide.
+    ensures wide { IsErrOf result TooWide
+        → RefusedByBlock file.now addr options (room_of (length frames.old)) TooWide
+        ⊎ RefusedByHeader file.now addr options (room_of (length frames.old)) TooWide }
+    // Without code info a refusal is one of 1 to 6, without inlining one of 1 to 9, or 15.
+    ensures no_code_info { options.code_info ≡ false → IfErr result (λ r. number_of r ≤ 6) }
+    ensures no_inlining { options.inlining ≡ false
+        → IfErr result (λ r. (number_of r ≤ 9) ⊎ (number_of r ≡ 15)) }
     // Else name, position, size and records are what the data of the entry say that the address lands on.
     ensures answered { IfOk result (λ a.
         Answered file.now addr options (room_of (length frames.old)) (with_records a frames.new)) }

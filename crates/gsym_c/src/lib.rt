@@ -9,6 +9,7 @@ mod laws;
 ghost use Rattle.std.specs.Prelude.{◌≡◌, ◌≢◌, ◌↔◌, ◌≤◌, ◌⊎◌, true, false, length, take, drop, Ok, Result};
 ghost use Rattle.gsym_types.specs.declared.Answer.{Answer};
 ghost use Rattle.gsym_types.specs.declared.Refusal.{Refusal};
+ghost use Rattle.gsym_types.specs.declared.Refusal.TheVariants.{UnreadLineHeader, TooWide};
 ghost use Rattle.gsym_types.specs.Refusal.{number_of};
 ghost use Rattle.gsym_inline.specs.Block.{block_of, room_of};
 ghost use Rattle.gsym_inline.specs.ListsFrames.{ListsFrames};
@@ -16,7 +17,7 @@ ghost use Rattle.gsym_inline.specs.Steps.{steps_of};
 ghost use Rattle.gsym_inline.specs.FirstFault.{FirstFault};
 ghost use Rattle.gsym_parser.specs.Entries.{covered_by};
 ghost use Rattle.gsym_resolver.specs.Lookup.{lookup_of};
-ghost use Rattle.gsym_resolver.specs.Blocks.{RefusedByBlock};
+ghost use Rattle.gsym_resolver.specs.Blocks.{RefusedByBlock, RefusedByHeader};
 ghost use Rattle.gsym_resolver.specs.Met.{Met};
 ghost use Rattle.gsym.specs.Lookups.{MeetsLookup};
 ghost use Rattle.gsym_c.specs.Laid.{address, options_of, answered, answer_in, refused_as, listed, block_listed};
@@ -125,7 +126,7 @@ impl From<Result<Answer, Refusal>> for GsymAnswer {
 
 /// The symbol of an address, with what `options` ask for: bit 0 its source position, bit 1 the calls inlined there,
 /// both or nothing of them; other bits are ignored. The records go to the front of `frames`, with room for as many
-/// frames as it has places, and for 64 at most. Written are exactly the records; a refusal (1 to 14) writes none, and
+/// frames as it has places, and for 64 at most. Written are exactly the records; a refusal (1 to 15) writes none, and
 /// without both bits the list isn't touched, nor is space for records filled (RULES, "Calls").
 #[unsafe(no_mangle)]
 pub extern "C" fn gsym_lookup_2(
@@ -134,16 +135,27 @@ pub extern "C" fn gsym_lookup_2(
     options: u32,
     frames: &mut [Frame],
 ) -> GsymAnswer
-    ensures number { result.number ≤ 14 }
+    ensures number { result.number ≤ 15 }
     // A number from 1 on exactly where the condition of that refusal is met, of several the first in the order of
     // RULES.
     ensures refused { (r : Refusal) → (result.number ≡ number_of r)
         ↔ Met file.now (address addr) (options_of options) (room_of (length frames.old)) r }
     // Every other field is then 0, and the list as it was.
     ensures zeros { result.number ≢ 0 → (result ≡ refused_as result.number) × (frames.new ≡ frames.old) }
-    // From 10 on it is the first fault of one of the entry's blocks, the first that doesn't list none.
-    ensures blocks { (r : Refusal) → result.number ≡ number_of r → 10 ≤ result.number
+    // From 10 to 14 it is the first fault of one of the entry's blocks, the first that doesn't list none.
+    ensures blocks { (r : Refusal) → result.number ≡ number_of r → 10 ≤ result.number → result.number ≤ 14
         → RefusedByBlock file.now (address addr) (options_of options) (room_of (length frames.old)) r }
+    // 9 is the header's of one of its line tables, the first that doesn't give none.
+    ensures header { result.number ≡ 9
+        → RefusedByHeader file.now (address addr) (options_of options) (room_of (length frames.old))
+        UnreadLineHeader }
+    // 15 is either's: a number there is too wide.
+    ensures wide { result.number ≡ 15
+        → RefusedByBlock file.now (address addr) (options_of options) (room_of (length frames.old)) TooWide
+        ⊎ RefusedByHeader file.now (address addr) (options_of options) (room_of (length frames.old)) TooWide }
+    // Without code info it is at most 6, without inlining at most 9, or 15.
+    ensures no_code_info { (options_of options).code_info ≡ false → result.number ≤ 6 }
+    ensures no_inlining { (options_of options).inlining ≡ false → (result.number ≤ 9) ⊎ (result.number ≡ 15) }
     ensures covered { result.number ≡ 0
         → covered_by (address addr) (address result.addr) result.size ≡ true }
     ensures below { result.addr ≤ addr }
@@ -181,7 +193,7 @@ impl From<Result<usize, Refusal>> for GsymListed {
 }
 
 /// The frames of one block at an address, for the symbol that it belongs to: `gsym::block_frames`. There is room for as
-/// many as the list has places, and for 64 at most. Written are exactly the frames; a refusal (10 to 14) writes none
+/// many as the list has places, and for 64 at most. Written are exactly the frames; a refusal (10 to 15) writes none
 /// (RULES, "Inline tree").
 #[unsafe(no_mangle)]
 pub extern "C" fn gsym_block_frames_2(
@@ -190,7 +202,7 @@ pub extern "C" fn gsym_block_frames_2(
     addr: u64,
     frames: &mut [InlineFrame],
 ) -> GsymListed
-    ensures number { result.number ≤ 14 }
+    ensures number { result.number ≤ 15 }
     // 0 exactly if the block reads: the list then begins with its frames, those of its open nodes that have a name.
     ensures listed { (result.number ≡ 0)
         ↔ ListsFrames symbol addr (room_of (length frames.old)) block.now (take result.count frames.new) }

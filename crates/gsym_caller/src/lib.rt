@@ -106,7 +106,7 @@ pub fn outermost(block: &[u8], symbol: Address, addr: Address) -> Result<Option<
 
 /// The exit status of a tool: 0 where there is an answer, and else the number of the refusal.
 pub fn exit_status(gsym: &Gsym<'_>, addr: Address) -> u8
-    ensures refused { IsErr (lookup_of gsym.now.file.now addr (plain_options false) 0) ↔ (1 ≤ result) × (result ≤ 14) }
+    ensures refused { IsErr (lookup_of gsym.now.file.now addr (plain_options false) 0) ↔ (1 ≤ result) × (result ≤ 15) }
     ensures exact { result ≡ status_of (lookup_of gsym.now.file.now addr (plain_options false) 0) }
 {
     match gsym.lookup(addr, Options::default(), &mut []) {
@@ -119,9 +119,9 @@ pub fn exit_status(gsym: &Gsym<'_>, addr: Address) -> u8
 pub fn is_of_the_file(refusal: Refusal) -> bool
     ensures { IsTrue result ↔ (2 ≤ number_of refusal) × (number_of refusal ≤ 4) }
 {
-    const OF_THE_FILE: [bool; 15] = [
+    const OF_THE_FILE: [bool; 16] = [
         false, false, true, true, true, false, false, false, false, false, false, false, false,
-        false, false,
+        false, false, false,
     ];
     OF_THE_FILE[refusal.number() as usize]
 }

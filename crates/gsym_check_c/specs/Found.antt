@@ -23,4 +23,4 @@ laid (Err f) = found_as f
 -- 0, and what a check may find, by its number
 abbrev pub IsOfFinding : ℕ → Type 0
 IsOfFinding n = (n ≡ 0)
-    ⊎ (((2 ≤ n) × (n ≤ 6)) ⊎ (((9 ≤ n) × (n ≤ 13)) ⊎ ((20 ≤ n) × (n ≤ 24))))
+    ⊎ (((2 ≤ n) × (n ≤ 6)) ⊎ (((9 ≤ n) × (n ≤ 13)) ⊎ ((n ≡ 15) ⊎ ((20 ≤ n) × (n ≤ 24)))))

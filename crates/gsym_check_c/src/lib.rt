@@ -53,7 +53,7 @@ pub extern "C" fn gsym_check_2(file: &[u8]) -> GsymFinding
     ensures found { (finding : Finding) → IsFirstFault file.now finding → result ≡ found_as finding }
     ensures one { result.number ≢ 0
         → (finding : Finding) × IsFirstFault file.now finding × (result ≡ found_as finding) }
-    // Of the tables 2 to 4 and 20 are told, of an entry 5 and 6, 9 to 13, 21 to 24, and an entry of these alone.
+    // Of the tables 2 to 4 and 20 are told, of an entry 5 and 6, 9 to 13, 15, 21 to 24, and an entry of these alone.
     ensures number { IsOfFinding result.number }
     ensures entry { result.entry ≢ 0 → (5 ≤ result.number) × (result.number ≢ 20) }
     // In a file that passed every lookup of a name finds it, where a symbol covers the address; one with code info

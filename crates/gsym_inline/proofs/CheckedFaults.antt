@@ -1,14 +1,14 @@
--- What a check is refused with has one of the numbers 10 to 13: no address is asked for, so that no frame lacks room.
+-- What a check is refused with has one of the numbers 10 to 13 and 15: no address is asked for, so that no frame lacks
+-- room.
 -- Assumes nothing.
-use Rattle.std.proofs.Common.{Ok, Err, Result, ℕ, zero, suc, ◌+◌, ◌≤◌, min, List, ◌∷◌, length, Bool, true, false}
+use Rattle.std.proofs.Common.{Ok, Err, Result, ℕ, zero, suc, ◌+◌, min, List, ◌∷◌, length, Bool, true, false}
 use Rattle.std.proofs.Common.{Option, Some, None}
-use Rattle.std.proofs.Common.{◌≡◌}
+use Rattle.std.proofs.Common.{◌≡◌, refl, inl, inr}
 use Rattle.std.proofs.Common.{eqb, leb, arith, IfErr, cond}
 use Rattle.gsym_reads.specs.Steps.{◌>>=◌, ◌>>◌, need, given, told}
 use Rattle.gsym_types.specs.declared.Refusal.{Refusal}
-use Rattle.gsym_types.specs.Refusal.{number_of}
 use Rattle.gsym_leb128.specs.declared.Cause.{Cause}
-use Rattle.gsym_leb128.specs.declared.Cause.TheVariants.{Short}
+use Rattle.gsym_leb128.specs.declared.Cause.TheVariants.{Short, Wide}
 use Rattle.gsym_reads.specs.Answers.{u8_at, u32_at}
 use Rattle.gsym_leb128.specs.Answers.{unsigned_at}
 use Rattle.gsym_inline.specs.Limits.{most_address, most_file, most_line, deepest_level}
@@ -27,28 +27,28 @@ use Rattle.gsym_inline.specs.declared.judge.JudgedNode.{JudgedNode}
 use Rattle.gsym_inline.specs.declared.head.Head.TheVariants as head
 use Rattle.gsym_inline.specs.declared.skipping.Next.{Next}
 use Rattle.gsym_inline.specs.declared.skipping.Next.TheVariants as after
-use Rattle.gsym_inline.proofs.Listing.{fault-number}
 
 -- where it is a fault, not that of room
 Low : {A : Type 0} → Result A Fault → Type 0
-Low x = IfErr x (λ f. number_of (refusal_of f) ≤ 13)
+Low x = IfErr x (λ f. IsOfTreeCheck (refusal_of f))
 
 low-told : {A : Type 0} (x : Result A Cause) → Low (told Unread x)
 unfolding Low
 low-told (Ok a) = tt
-low-told (Err k) = omega arith
+low-told (Err Short) = inl (omega arith, omega arith)
+low-told (Err Wide) = inr refl
 
 low-given : {A : Type 0} (x : Option A) → Low (given (Unread Short) x)
 unfolding Low
 low-given (Some a) = tt
-low-given None = omega arith
+low-given None = inl (omega arith, omega arith)
 
 low-bind : {A B : Type 0} (x : Result A Fault) (k : A → Result B Fault) → Low x → ((a : A) → Low (k a)) → Low (x >>= k)
 unfolding Low
 low-bind (Ok a) k l f = f a
 low-bind (Err e) k l f = l
 
-low-need : {B : Type 0} (b : Bool) (d : Fault) (r : Result B Fault) → number_of (refusal_of d) ≤ 13 → Low r
+low-need : {B : Type 0} (b : Bool) (d : Fault) (r : Result B Fault) → IsOfTreeCheck (refusal_of d) → Low r
     → Low (need b d >> r)
 unfolding Low
 low-need true d r n l = l
@@ -64,8 +64,8 @@ module _ (s : List ℕ) where
   low-range base at =
       low-bind {A = ℕ × ℕ} _ _ (low-told (unsigned_at s at)) (λ o.
       low-bind {A = ℕ × ℕ} _ _ (low-told (unsigned_at s o.1)) (λ z.
-      low-need (leb (base + o.0) most_address) Sum _ (omega arith)
-      (low-need (leb (base + o.0 + z.0) most_address) Sum _ (omega arith)
+      low-need (leb (base + o.0) most_address) Sum _ (inl (omega arith, omega arith))
+      (low-need (leb (base + o.0 + z.0) most_address) Sum _ (inl (omega arith, omega arith))
       (low-ok (record { off = o.0; size = z.0 }, z.1)))))
 
   low-ranges : (base count at : ℕ) → Low (judged_ranges base count s at)
@@ -81,7 +81,7 @@ module _ (s : List ℕ) where
       low-bind {A = ℕ} _ _ (low-given (u8_at s at)) (λ children.
       low-bind {A = ℕ} _ _ (low-given (u32_at s (at + 1))) (λ name.
       low-bind {A = ℕ × ℕ} _ _ (low-told (unsigned_at s (at + 5))) (λ file.
-      low-need (leb file.0 most_file) CallFile _ (omega arith)
+      low-need (leb file.0 most_file) CallFile _ (inl (omega arith, omega arith))
       (low-bind {A = ℕ × ℕ} _ _ (low-told (unsigned_at s file.1)) (λ line.
       low-ok (record {
         next = line.1;
@@ -94,7 +94,7 @@ module _ (s : List ℕ) where
   low-node : (c : Inherited) (count at : ℕ) → Low (judged_node c s count at)
   unfolding judged_node
   low-node c count at =
-      low-need (leb c.level deepest_level) Level _ (omega arith)
+      low-need (leb c.level deepest_level) Level _ (inl (omega arith, omega arith))
       (low-bind (judged_ranges c.base count s at) _ (low-ranges c.base count at)
       (λ rs. low-rest (c.base + first_off rs.0) (any_in c.addr c.base rs.0) rs.1))
 
@@ -128,7 +128,7 @@ module _ (s : List ℕ) where
 
   low-within : (f : ℕ) (c : Inherited) (at : ℕ) → Low (checked_within f s c at)
   unfolding checked_within Low
-  low-within zero c at = omega arith
+  low-within zero c at = inl (omega arith, omega arith)
   low-within (suc f) c at =
       low-bind (judged_at c s at) _ (low-head c at) (λ x.
       low-bind (checked_from (checked_within f s) c x) _ (low-from (checked_within f s) c (low-within f) x)
@@ -155,4 +155,4 @@ check_number symbol bytes x e =
   where
     by : (x : Result Next Fault) → Low x → IfErr (told refusal_of x >>= λ n. passes) IsOfTreeCheck
     by (Ok n) l = tt
-    by (Err f) l = ((fault-number f).0, l)
+    by (Err f) l = l

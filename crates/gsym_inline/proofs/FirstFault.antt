@@ -7,6 +7,7 @@ use Rattle.std.proofs.Common.{eq-eqb}
 use Rattle.std.proofs.lemmas.Bool.{leb-true, leb-false}
 use Rattle.gsym_reads.specs.Steps.{◌>>◌, need}
 use Rattle.gsym_types.specs.declared.InlineFrame.{InlineFrame}
+use Rattle.gsym_leb128.specs.declared.Cause.TheVariants.{Short, Wide}
 use Rattle.gsym_inline.specs.Tree.{Node}
 use Rattle.gsym_inline.specs.Frames.{frame_of, named, frames}
 use Rattle.gsym_inline.specs.Limits.{most_address, most_file, deepest_level}
@@ -16,6 +17,7 @@ use Rattle.gsym_inline.specs.Steps.{Step, read, unread, stands, starts, ends, ca
 use Rattle.gsym_inline.specs.FirstFault.{frames_among, Refuses, NoFault, FirstFault}
 use Rattle.gsym_types.specs.declared.Refusal.{Refusal}
 use Rattle.gsym_types.specs.declared.Refusal.TheVariants.{UnreadInline, InlineSumTooLarge, CallFileTooLarge, TooDeep}
+use Rattle.gsym_types.specs.declared.Refusal.TheVariants.{TooWide}
 use Rattle.gsym_types.specs.declared.Refusal.TheVariants.{TooManyFrames}
 use Rattle.gsym_inline.proofs.Numbers.{never}
 use Rattle.gsym_inline.proofs.Listing.{lists, reads, refuses}
@@ -77,7 +79,8 @@ module _ (room : ℕ) (acc : List InlineFrame) where
   turn : (x : Step) → Turn room acc x
   unfolding outcome shows Refuses
   turn (read i v) = goes (λ e h. h) same-frames
-  turn (unread i k) = halts UnreadInline refl (λ xs. refl)
+  turn (unread i Short) = halts UnreadInline refl (λ xs. refl)
+  turn (unread i Wide) = halts TooWide refl (λ xs. refl)
   turn (stands n) =
       by-test (stands n) deepest_level n TooDeep (λ e h. h.1) (λ l. (refl, l))
       (λ xs. ap (λ (b : Block). need (leb n deepest_level) TooDeep >> b) (same-frames xs))
@@ -97,7 +100,8 @@ module _ (room : ℕ) (acc : List InlineFrame) where
   refusal-unique : (x : Step) (e n : Refusal) → Refuses room acc x e → Refuses room acc x n → e ≡ n
   unfolding Refuses
   refusal-unique (read i v) e n p q = absurd p
-  refusal-unique (unread i k) e n p q = cc
+  refusal-unique (unread i Short) e n p q = cc
+  refusal-unique (unread i Wide) e n p q = cc
   refusal-unique (stands v) e n p q = p.0 ∙ sym q.0
   refusal-unique (starts v) e n p q = p.0 ∙ sym q.0
   refusal-unique (ends v) e n p q = p.0 ∙ sym q.0

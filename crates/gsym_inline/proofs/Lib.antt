@@ -12,6 +12,7 @@ pub mod Walks
 pub mod Conditions
 pub mod ForestFrames
 pub mod MoreRoom
+pub mod Cut
 pub mod PathLists
 pub mod ByPathsOrder
 pub mod Members

@@ -7,6 +7,7 @@ use Rattle.gsym_reads.proofs.Steps.{ok_is}
 use Rattle.gsym_types.specs.declared.InlineFrame.{InlineFrame}
 use Rattle.gsym_types.specs.declared.Refusal.{Refusal}
 use Rattle.gsym_types.specs.Refusal.{number_of}
+use Rattle.gsym_leb128.specs.declared.Cause.TheVariants.{Short, Wide}
 use Rattle.gsym_inline.specs.Tree.{Forest}
 use Rattle.gsym_inline.specs.Frames.{frames}
 use Rattle.gsym_inline.proofs.PathLists.{frame_paths}
@@ -56,12 +57,13 @@ block-is symbol addr room bytes =
       node-root (suc (length bytes)) bytes c 0 [],
     )
 
--- a refusal of a block has one of the numbers 10 to 14
+-- a refusal of a block has one of the numbers 10 to 15
 abbrev pub OfBlock : Refusal → Type 0
-OfBlock r = (10 ≤ number_of r) × (number_of r ≤ 14)
+OfBlock r = (10 ≤ number_of r) × (number_of r ≤ 15)
 
 pub fault-number : (f : Fault) → OfBlock (refusal_of f)
-fault-number (fault.Unread k) = (omega arith, omega arith)
+fault-number (fault.Unread Short) = (omega arith, omega arith)
+fault-number (fault.Unread Wide) = (omega arith, omega arith)
 fault-number fault.Sum = (omega arith, omega arith)
 fault-number fault.CallFile = (omega arith, omega arith)
 fault-number fault.Level = (omega arith, omega arith)

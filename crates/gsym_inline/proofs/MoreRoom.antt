@@ -4,7 +4,8 @@
 use Rattle.std.proofs.Common.{Ok, Err, Result, ℕ, zero, suc, ◌+◌, ◌≤◌, Bool, true, false, List, [], ◌++◌, ◌⊎◌, inl, inr}
 use Rattle.std.proofs.Common.{⊎_elim, ◌≡◌, refl, leb, eqb, length, arith, le-leb, if◌then◌else◌}
 use Rattle.std.proofs.lemmas.Bool.{leb-true}
-use Rattle.gsym_reads.specs.Steps.{◌>>=◌, ◌>>◌, need}
+use Rattle.gsym_reads.specs.Steps.{◌>>◌, need}
+use Rattle.gsym_reads.proofs.Or.{Or, step_or, pick_or}
 use Rattle.gsym_types.specs.declared.InlineFrame.{InlineFrame}
 use Rattle.gsym_inline.specs.Judge.{judged_node, judged_at}
 use Rattle.gsym_inline.specs.Skip.{skip_within, skip_list}
@@ -23,20 +24,7 @@ use Rattle.gsym_inline.specs.declared.skipping.Next.TheVariants as after
 
 -- no room, or the same
 abbrev Or14 : {A : Type 0} → Result A Fault → Result A Fault → Type 0
-Or14 less more = (less ≡ Err Room) ⊎ (less ≡ more)
-
-or-test :
-    {A : Type 0} (b : Bool) (x y v w : Result A Fault) → Or14 x v → Or14 y w →
-    Or14 (if b then x else y) (if b then v else w)
-or-test true x y v w g h = g
-or-test false x y v w g h = h
-
-or-step :
-    {A B : Type 0} (x y : Result A Fault) (f g : A → Result B Fault) → Or14 x y → ((a : A) → Or14 (f a) (g a)) →
-    Or14 (x >>= f) (y >>= g)
-or-step x y f g (inl e) h = inl (rw e refl)
-or-step (Ok a) y f g (inr e) h = rw (← e) (h a)
-or-step (Err k) y f g (inr e) h = inr (rw (← e) refl)
+Or14 less more = Or Room less more
 
 abbrev ctx : (level addr base room : ℕ) → Inherited
 ctx level addr base room = record { level = level; addr = addr; base = base; room = room }
@@ -66,12 +54,12 @@ module _ (room more : ℕ) (l : room ≤ more) where
   unfolding walk_from open_node closed_node
   head-room reads skips h level addr base acc (head.End n) = inr refl
   head-room reads skips h level addr base acc (head.Node i) =
-      or-test i.inside _ _ _ _
-      (or-step (with_frame room i.frame acc) (with_frame more i.frame acc) _ _ (put-room i.frame acc)
-      (λ fs. or-step
+      pick_or Room i.inside _ _ _ _
+      (step_or Room (with_frame room i.frame acc) (with_frame more i.frame acc) _ _ (put-room i.frame acc)
+      (λ fs. step_or Room
       (if eqb i.children 0 then Ok (i.next, fs) else reads (ctx (level + 1) addr i.base room) i.next fs)
       (if eqb i.children 0 then Ok (i.next, fs) else reads (ctx (level + 1) addr i.base more) i.next fs) _ _
-      (or-test (eqb i.children 0) _ _ _ _ (inr refl) (h (level + 1) addr i.base i.next fs)) (λ p. inr refl)))
+      (pick_or Room (eqb i.children 0) _ _ _ _ (inr refl) (h (level + 1) addr i.base i.next fs)) (λ p. inr refl)))
       (inr refl)
 
   then-room :
@@ -93,9 +81,9 @@ module _ (room more : ℕ) (l : room ≤ more) where
   unfolding walk_within
   list-room zero s level addr base at acc = inr refl
   list-room (suc fuel) s level addr base at acc =
-      or-step (judged_at (ctx level addr base room) s at) (judged_at (ctx level addr base more) s at) _ _
+      step_or Room (judged_at (ctx level addr base room) s at) (judged_at (ctx level addr base more) s at) _ _
       (inr (same-judged level addr base s at))
-      (λ v. or-step
+      (λ v. step_or Room
       (walk_from (walk_within fuel s) (skip_within fuel s (level + 1)) (ctx level addr base room) acc v)
       (walk_from (walk_within fuel s) (skip_within fuel s (level + 1)) (ctx level addr base more) acc v) _ _
       (head-room (walk_within fuel s) (skip_within fuel s (level + 1)) (list-room fuel s) level addr base acc v)
@@ -106,7 +94,7 @@ module _ (room more : ℕ) (l : room ≤ more) where
       Or14 (walk_node s (ctx level addr base room) at acc) (walk_node s (ctx level addr base more) at acc)
   unfolding walk_node walk_list skip_list
   node-room s level addr base at acc =
-      or-step (judged_at (ctx level addr base room) s at) (judged_at (ctx level addr base more) s at) _ _
+      step_or Room (judged_at (ctx level addr base room) s at) (judged_at (ctx level addr base more) s at) _ _
       (inr (same-judged level addr base s at))
       (head-room (walk_within (suc (length s)) s) (skip_within (suc (length s)) s (level + 1))
       (list-room (suc (length s)) s) level addr base acc)

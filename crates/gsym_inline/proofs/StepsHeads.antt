@@ -9,7 +9,7 @@ use Rattle.gsym_leb128.specs.declared.Cause.{Cause}
 use Rattle.gsym_leb128.specs.declared.Cause.TheVariants.{Short}
 use Rattle.gsym_types.specs.declared.InlineFrame.{InlineFrame}
 use Rattle.gsym_types.specs.declared.Refusal.{Refusal}
-use Rattle.gsym_types.specs.declared.Refusal.TheVariants.{UnreadInline, InlineSumTooLarge, CallFileTooLarge, TooDeep}
+use Rattle.gsym_types.specs.declared.Refusal.TheVariants.{InlineSumTooLarge, CallFileTooLarge, TooDeep}
 use Rattle.gsym_types.specs.declared.Refusal.TheVariants.{TooManyFrames}
 use Rattle.gsym_inline.specs.Limits.{most_address, most_file, deepest_level}
 use Rattle.gsym_inline.specs.Tree.{Range}
@@ -64,7 +64,7 @@ no r = Err r
 unfoldable pub outcome : ℕ → List InlineFrame → List Step → Block
 outcome room acc [] = Ok acc
 outcome room acc (read i v ∷ more) = outcome room acc more
-outcome room acc (unread i k ∷ more) = no UnreadInline
+outcome room acc (unread i k ∷ more) = no (refusal_of (fault.Unread k))
 outcome room acc (stands n ∷ more) = need (leb n deepest_level) TooDeep >> outcome room acc more
 outcome room acc (starts v ∷ more) = need (leb v most_address) InlineSumTooLarge >> outcome room acc more
 outcome room acc (ends v ∷ more) = need (leb v most_address) InlineSumTooLarge >> outcome room acc more

@@ -7,6 +7,7 @@ use Rattle.gsym_types.specs.declared.Refusal.{Refusal}
 use Rattle.gsym_types.specs.declared.Refusal.TheVariants as refused
 use Rattle.gsym_inline.specs.Limits.{most_frames}
 use Rattle.gsym_inline.specs.Walk.{walk_node}
+use Rattle.gsym_leb128.specs.declared.Cause.TheVariants.{Short, Wide}
 use Rattle.gsym_inline.specs.declared.head.Fault.{Fault}
 use Rattle.gsym_inline.specs.declared.head.Fault.TheVariants as fault
 use Rattle.gsym_inline.specs.Inherited.{Inherited}
@@ -14,9 +15,11 @@ use Rattle.gsym_inline.specs.Inherited.{Inherited}
 abbrev pub Block : Type 0
 Block = Result (List InlineFrame) Refusal
 
--- the refusal for each fault; inline bytes that don't read have one, whatever the cause
+-- the refusal for each fault; of inline bytes that don't read one where they are short, and another where a number is
+-- too wide
 abbrev pub refusal_of : Fault → Refusal
-refusal_of (fault.Unread k) = refused.UnreadInline
+refusal_of (fault.Unread Short) = refused.UnreadInline
+refusal_of (fault.Unread Wide) = refused.TooWide
 refusal_of fault.Sum = refused.InlineSumTooLarge
 refusal_of fault.CallFile = refused.CallFileTooLarge
 refusal_of fault.Level = refused.TooDeep

@@ -4,7 +4,7 @@
 -- As in passing over, `checked_list` asks for no number of turns, and is its first node and then the rest
 -- (`checked_step`).
 -- Assumes nothing.
-use Rattle.std.specs.Prelude.{Ok, Err, Result, ℕ, zero, suc, ◌≤◌, List, ◌==◌, length, if◌then◌else◌}
+use Rattle.std.specs.Prelude.{Ok, Err, Result, ℕ, zero, suc, ◌≤◌, ◌⊎◌, ◌≡◌, List, ◌==◌, length, if◌then◌else◌}
 use Rattle.gsym_reads.specs.Steps.{◌>>=◌, told}
 use Rattle.gsym_types.specs.declared.Refusal.{Refusal}
 use Rattle.gsym_types.specs.Refusal.{number_of}
@@ -58,6 +58,6 @@ checked_tree symbol bytes = do
   after ← told refusal_of (checked_node bytes (check_context 1 symbol) 0)
   Ok tt
 
--- what a tree that is checked may be refused with, by its number: 10 to 13
+-- what a tree that is checked may be refused with, by its number: 10 to 13, or 15
 abbrev pub IsOfTreeCheck : Refusal → Type 0
-IsOfTreeCheck r = (10 ≤ number_of r) × (number_of r ≤ 13)
+IsOfTreeCheck r = ((10 ≤ number_of r) × (number_of r ≤ 13)) ⊎ (number_of r ≡ 15)

@@ -9,6 +9,7 @@ use Rattle.gsym_types.specs.declared.Refusal.TheVariants.{
   CallFileTooLarge,
   TooDeep,
   TooManyFrames,
+  TooWide,
 }
 use Rattle.gsym_inline.specs.Block.{Block, block_of}
 use Rattle.gsym_inline.specs.Examples.{four_times}
@@ -46,8 +47,21 @@ above = 0x01 ∷ 0x01 ∷ 0x00 ∷ []
 abbrev pub byte_and_name : ℕ → List ℕ
 byte_and_name children = children ∷ 0x01 ∷ 0x00 ∷ 0x00 ∷ 0x00 ∷ []
 
+abbrev pub large : List ℕ
+large = 0x80 ∷ 0x80 ∷ 0x80 ∷ 0x80 ∷ 0x10 ∷ []
+
+-- ten bytes: 2^64; 0, padded; and 0 of which the tenth byte asks for another. And nine that all ask for another
 abbrev pub wide : List ℕ
-wide = 0x80 ∷ 0x80 ∷ 0x80 ∷ 0x80 ∷ 0x10 ∷ []
+wide = replicate 9 0x80 ++ (0x02 ∷ [])
+
+abbrev pub padded : List ℕ
+padded = replicate 9 0x80 ++ (0x00 ∷ [])
+
+abbrev pub endless : List ℕ
+endless = replicate 10 0x80
+
+abbrev pub nine : List ℕ
+nine = replicate 9 0x80
 
 -- a node with children to follow, and 64 of them, each in the one before it
 abbrev pub with_children : List ℕ
@@ -58,9 +72,9 @@ deep = four_times (four_times (four_times with_children))
 
 abbrev pub cases : List Case
 cases =
-    -- 10: range count, short and too wide; offset; size; children byte; name; call file; call line
+    -- 10: range count; offset; size; children byte; name; call file; call line
     contained [] UnreadInline
-    ∷ contained (replicate 9 0xff ++ (0x02 ∷ [])) UnreadInline
+    ∷ contained nine UnreadInline
     ∷ contained (0x01 ∷ []) UnreadInline
     ∷ contained (0x01 ∷ 0x00 ∷ []) UnreadInline
     ∷ contained low_range UnreadInline
@@ -73,11 +87,11 @@ cases =
     ∷ highest (0x02 ∷ 0x00 ∷ 0x01 ∷ []) InlineSumTooLarge
     ∷ highest above InlineSumTooLarge
     -- 12: after 11, and before the call line
-    ∷ highest (above ++ byte_and_name 0 ++ wide) InlineSumTooLarge
-    ∷ contained (low_range ++ byte_and_name 0 ++ wide) CallFileTooLarge
+    ∷ highest (above ++ byte_and_name 0 ++ large) InlineSumTooLarge
+    ∷ contained (low_range ++ byte_and_name 0 ++ large) CallFileTooLarge
     -- 14: after the call line, and before the children
     ∷ no_room (low_range ++ byte_and_name 0 ++ (0x00 ∷ [])) UnreadInline
-    ∷ no_room (low_range ++ byte_and_name 0 ++ wide ++ (0x00 ∷ [])) CallFileTooLarge
+    ∷ no_room (low_range ++ byte_and_name 0 ++ large ++ (0x00 ∷ [])) CallFileTooLarge
     ∷ no_room (low_range ++ byte_and_name 0 ++ (0x00 ∷ 0x00 ∷ [])) TooManyFrames
     ∷ no_room with_children TooManyFrames
     ∷ contained with_children UnreadInline
@@ -86,10 +100,29 @@ cases =
     ∷ contained (deep ++ (0x01 ∷ [])) TooDeep
     ∷ outside deep UnreadInline
     ∷ outside (deep ++ (0x01 ∷ [])) TooDeep
+    -- 15: where 10 stood, of the same numbers; not where the tenth byte is missing, and not where they fit
+    ∷ contained wide TooWide
+    ∷ contained endless TooWide
+    ∷ contained (0x01 ∷ wide) TooWide
+    ∷ contained (0x01 ∷ 0x00 ∷ wide) TooWide
+    ∷ contained (low_range ++ byte_and_name 0 ++ wide) TooWide
+    ∷ contained (low_range ++ byte_and_name 0 ++ (0x00 ∷ []) ++ wide) TooWide
+    ∷ contained (low_range ++ byte_and_name 0 ++ nine) UnreadInline
+    ∷ contained (low_range ++ byte_and_name 0 ++ padded) UnreadInline
+    -- a call file's limit comes after it and before the call line; sums before the next number; a size before its sum
+    ∷ contained (low_range ++ byte_and_name 0 ++ large ++ wide) CallFileTooLarge
+    ∷ highest (above ++ wide) InlineSumTooLarge
+    ∷ highest (0x01 ∷ 0x01 ∷ wide) TooWide
+    -- below a closed node too, before the level and after it
+    ∷ outside (with_children ++ wide) TooWide
+    ∷ outside (with_children ++ low_range ++ byte_and_name 0 ++ wide) TooWide
+    ∷ outside (with_children ++ low_range ++ byte_and_name 0 ++ nine) UnreadInline
+    ∷ outside (deep ++ wide) TooWide
+    ∷ outside (deep ++ (0x01 ∷ wide)) TooDeep
     -- below a closed node no call file is judged; all below a sibling comes before the next
-    ∷ outside (with_children ++ low_range ++ byte_and_name 0 ++ wide ++ (0x00 ∷ [])) UnreadInline
+    ∷ outside (with_children ++ low_range ++ byte_and_name 0 ++ large ++ (0x00 ∷ [])) UnreadInline
     ∷ contained
-    (with_children ++ with_children ++ low_range ++ byte_and_name 0 ++ wide ++ (0x00 ∷ 0x00 ∷ 0x01 ∷ []))
+    (with_children ++ with_children ++ low_range ++ byte_and_name 0 ++ large ++ (0x00 ∷ 0x00 ∷ 0x01 ∷ []))
     CallFileTooLarge
     ∷ []
 

@@ -11,7 +11,9 @@ use Rattle.gsym_types.specs.declared.Refusal.TheVariants.{
   CallFileTooLarge,
   TooDeep,
   TooManyFrames,
+  TooWide,
 }
+use Rattle.gsym_leb128.specs.declared.Cause.TheVariants.{Short, Wide}
 use Rattle.gsym_inline.specs.Limits.{most_address, most_file, deepest_level}
 use Rattle.gsym_inline.specs.Steps.{Step, read, unread, stands, starts, ends, calls, opens}
 
@@ -27,14 +29,16 @@ frames_among (calls v ∷ more) = frames_among more
 frames_among (opens self ∷ more) = named self ++ frames_among more
 
 -- a step that comes after these frames is refused with this
---   UnreadInline       10   inline bytes don't read
+--   UnreadInline       10   inline bytes are short
 --   InlineSumTooLarge  11   a start or an end is above 2^64-1
 --   CallFileTooLarge   12   a call file is above 4,294,967,295
 --   TooDeep            13   a node stands on level 65
 --   TooManyFrames      14   there are more frames than room
+--   TooWide            15   a number is too wide
 unfoldable pub Refuses : (room : ℕ) → (so_far : List InlineFrame) → Step → Refusal → Type 0
 Refuses room so_far (read i v) r = ⊥
-Refuses room so_far (unread i k) r = r ≡ UnreadInline
+Refuses room so_far (unread i Short) r = r ≡ UnreadInline
+Refuses room so_far (unread i Wide) r = r ≡ TooWide
 Refuses room so_far (starts v) r = (r ≡ InlineSumTooLarge) × (most_address < v)
 Refuses room so_far (ends v) r = (r ≡ InlineSumTooLarge) × (most_address < v)
 Refuses room so_far (calls v) r = (r ≡ CallFileTooLarge) × (most_file < v)

@@ -1,13 +1,14 @@
 -- A node's head judged at an address (RULES, "Inline tree", "Order inside a node"): read and judged in this order, and
 -- what comes first decides.
 --
---   range count                               10, and where it is 0 nothing more
+--   range count                               where it is 0 nothing more
 --   level                                     13
---   each range's offset, size, start, end     10, 10, 11, 11
---   children byte, name, call file            10
+--   each range's offset, size, start, end     11 for the start and for the end
+--   children byte, name, call file
 --   the call file's limit                     12
---   call line                                 10
+--   call line
 --
+-- What is read is 10 where it is short, and a number is 15 where it is too wide.
 -- Assumes nothing.
 use Rattle.std.specs.Prelude.{
   Ok,

@@ -1,4 +1,4 @@
--- Nodes that are passed over with all their descendants: only 10 and 13 apply to them (RULES, "Inline tree").
+-- Nodes that are passed over with all their descendants: only 10, 13 and 15 apply to them (RULES, "Inline tree").
 --
 -- Each node takes at least one byte, so that as many turns as bytes, and one to see the end, are enough: `skip_list`
 -- asks for no number of turns, and proofs/Fuel.antt says that it is its first node and then the rest (`skip_step`).

@@ -17,7 +17,7 @@ const MOST_LINE: u64 = 0xffff_ffff;
 /// What ends the reading of a block (RULES, "Inline tree").
 #[derive(Clone, Copy, Debug, PartialEq, Eq, Hash)]
 pub enum Fault {
-    /// The bytes don't read: they end, or a number is too wide (10).
+    /// The bytes don't read: they end (10), or a number is too wide (15).
     // No Option: one error beside others, and it keeps the cause.
     Unread(Cause),
     /// The start or the end of a range is above 2^64-1 (11).
@@ -138,7 +138,7 @@ fn node_head(s: &[u8], level: usize, ranges: u64, first: usize) -> Result<NodeHe
 }
 
 /// What stands at the place `at` of a block, where a node on `level` is looked for; the caller counts levels, and the
-/// root stands on level 1. Only 10 and 13 are given, in the order of RULES ("Inline tree", "Order inside a node").
+/// root stands on level 1. Only 10, 13 and 15 are given, in the order of RULES ("Inline tree", "Order inside a node").
 #[tactic(auto, unfolding(crate::specs::Head::head_at))]
 pub fn head_at(s: &[u8], level: usize, at: usize) -> Result<Head<NodeHead>, Fault>
     ensures exact { result ≡ head_at s.now level at }

@@ -1,5 +1,5 @@
-//! A node's head judged at an address (RULES, "Inline tree", "Order inside a node"): what comes first of 10 to 13, or
-//! what the node comes to. Frames and children are left to `walk`.
+//! A node's head judged at an address (RULES, "Inline tree", "Order inside a node"): what comes first of 10 to 13
+//! and 15, or what the node comes to. Frames and children are left to `walk`.
 ghost use Rattle.std.specs.Prelude.{◌≡◌, true, false, nat_le, nat_lt, length, if◌then◌else◌};
 ghost use Rattle.gsym_inline.specs.Head.{GoesOn};
 ghost use Rattle.gsym_inline.specs.Judge.{judged_range, judged_ranges, judged_rest, judged_node, judged_at, span_of};

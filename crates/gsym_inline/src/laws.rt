@@ -1,9 +1,11 @@
 //! Laws of the definitions that contracts name (RULES, "Inline tree"). Nothing runs here: each function's clauses are
 //! about the definitions alone.
-ghost use Rattle.std.specs.Prelude.{◌≡◌, ◌↔◌, ℕ, List, IsOk};
+ghost use Rattle.std.specs.Prelude.{◌≡◌, ◌↔◌, ◌⊎◌, ◌++◌, ℕ, List, IsOk, Err};
 ghost use Rattle.gsym_types.specs.declared.InlineFrame.{InlineFrame};
 ghost use Rattle.gsym_types.specs.declared.Refusal.{Refusal};
+ghost use Rattle.gsym_types.specs.declared.Refusal.TheVariants.{UnreadInline};
 ghost use Rattle.gsym_inline.specs.Block.{block_of};
+ghost use Rattle.gsym_inline.specs.Checked.{checked_tree};
 ghost use Rattle.gsym_inline.specs.Reads.{Reads};
 ghost use Rattle.gsym_inline.specs.ListsFrames.{ListsFrames};
 ghost use Rattle.gsym_inline.specs.Steps.{Step, Judging, block_steps, steps_of, InFile, InPlace};
@@ -39,7 +41,18 @@ pub fn one_answer()
         → FirstFault room (steps_of symbol addr bytes) q → r ≡ q }
 {}
 
-/// 25 blocks that don't read, written out, have the refusals that are written beside them, and trees whose bytes are
+/// A block that is cut is refused as short (10), or answers as the whole does, and so does its check. So no cut makes a
+/// number too wide (15), nor anything else that the whole isn't refused with (RULES, "Inline tree").
+pub fn cut_blocks()
+    ensures frames { (symbol addr room : ℕ) (front rest : List ℕ)
+        → (block_of symbol addr room front ≡ Err UnreadInline)
+        ⊎ (block_of symbol addr room front ≡ block_of symbol addr room (front ++ rest)) }
+    ensures check { (symbol : ℕ) (front rest : List ℕ)
+        → (checked_tree symbol front ≡ Err UnreadInline)
+        ⊎ (checked_tree symbol front ≡ checked_tree symbol (front ++ rest)) }
+{}
+
+/// 41 blocks that don't read, written out, have the refusals that are written beside them, and trees whose bytes are
 /// written out have the frames that are (RULES, "Further examples").
 #[tactic(auto, using(crate::proofs::FaultNumbers::fault_numbers, crate::proofs::FaultNumbers::tree_examples))]
 pub fn fault_numbers()

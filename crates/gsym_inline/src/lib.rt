@@ -32,7 +32,7 @@ use context::Context;
 pub use gsym_leb128::Cause;
 use gsym_types::{Address, InlineFrame, MAX_FRAMES, Refusal};
 pub use head::{DEEPEST_LEVEL, Fault, Head, NodeHead, head_at};
-pub use laws::{fault_numbers, one_answer, reads_iff, steps_in_order};
+pub use laws::{cut_blocks, fault_numbers, one_answer, reads_iff, steps_in_order};
 use walk::node;
 
 /// The frames of a block, which are never more than `gsym_types::MAX_FRAMES` (RULES, "Inline tree").
@@ -43,7 +43,8 @@ impl From<Fault> for Refusal {
 
     fn from(fault: Fault) -> Refusal {
         match fault {
-            Fault::Unread(_) => Refusal::UnreadInline,
+            Fault::Unread(Cause::Short) => Refusal::UnreadInline,
+            Fault::Unread(Cause::Wide) => Refusal::TooWide,
             Fault::Sum => Refusal::InlineSumTooLarge,
             Fault::CallFile => Refusal::CallFileTooLarge,
             Fault::Level => Refusal::TooDeep,
@@ -56,7 +57,7 @@ impl From<Fault> for Refusal {
 /// with a name other than 0 that contain the address and whose ancestors all contain it, parents before children,
 /// siblings in file order. They take the place of what the list had. There is room for `room` of them, and for 64 at
 /// most. A block that doesn't so read is refused for what comes first in reading order, with one of the refusals 10 to
-/// 14, and leaves the list empty.
+/// 15, and leaves the list empty.
 pub fn block_in(
     block: &[u8],
     symbol: Address,
@@ -90,7 +91,7 @@ pub fn block_in(
 /// Whether the tree of a block is there in full, for the symbol that the block belongs to, with each of its nodes
 /// judged (RULES, "Checking a file"): its bytes read, no node has a start or an end above 2^64-1 or a call file above
 /// 4,294,967,295, and none stands on level 65. Refused for what comes first in reading order, with one of the refusals
-/// 10 to 13.
+/// 10 to 13 and 15.
 pub fn check_tree(block: &[u8], symbol: Address) -> Result<(), Refusal>
     ensures full { IsOk result ↔ TreeInFull symbol.0 block.now }
     ensures refused { (r : Refusal) → IsErrOf result r ↔ FirstFault 0 (check_steps symbol.0 block.now) r }

@@ -48,7 +48,7 @@ more-short : (b : ℕ) (d : Result (ℕ × ℕ) Cause) → more b d ≡ Err Shor
 more-short b (Ok (v, n)) e = absurd (cc)
 more-short b (Err c) e = e
 
-each-asks : (b : ℕ) (bs : List ℕ) → 128 ≤ b → All (λ b. 128 ≤ b) bs → All (λ b. 128 ≤ b) (b ∷ bs)
+pub each-asks : (b : ℕ) (bs : List ℕ) → 128 ≤ b → All (λ b. 128 ≤ b) bs → All (λ b. 128 ≤ b) (b ∷ bs)
 each-asks b bs l a zero d t = l
 each-asks b bs l a (suc i) d t = a i d (omega arith)
 

@@ -5,4 +5,6 @@ mod Plain
 mod Signs
 pub mod Taken
 pub mod Bytes
+mod Wide
+pub mod Cut
 pub mod Places

@@ -23,7 +23,7 @@ judged x n = do
   need (nat_lt (mag (complement x n)) (2 ^ 63)) Wide
   Ok (complement x n, n)
 
-below-zero : (x p : ℕ) → x < p → pos x -ℤ pos p ≡ negsuc (p - suc x)
+pub below-zero : (x p : ℕ) → x < p → pos x -ℤ pos p ≡ negsuc (p - suc x)
 below-zero x zero h = absurd (omega arith)
 below-zero x (suc p) h = rw (lt-ltb _ _ h)
 

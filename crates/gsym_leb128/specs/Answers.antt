@@ -1,9 +1,11 @@
 -- What the readers answer (RULES, "LEB128"): the number, and where reading goes on.
 -- Assumes nothing.
-use Rattle.std.specs.Prelude.{ℕ, ◌+◌, ◌<◌, ◌≤◌, List, All, length, drop, ℤ, Ok, Result}
+use Rattle.std.specs.Prelude.{ℕ, ◌+◌, ◌*◌, ◌%◌, ◌^◌, ◌<◌, ◌≤◌, ◌⊎◌, List, [], ◌∷◌, All, length, take, drop, slice_index}
+use Rattle.std.specs.Prelude.{ℤ, Ok, Result}
+use Rattle.std.specs.Int.Signed.{mag}
 use Rattle.gsym_reads.specs.Steps.{◌>>=◌}
 use Rattle.gsym_leb128.specs.declared.Cause.{Cause}
-use Rattle.gsym_leb128.specs.Leb.{unsigned, signed}
+use Rattle.gsym_leb128.specs.Leb.{complement, unsigned, signed}
 
 -- ---- at the front of bytes: the number, and the bytes after it
 
@@ -29,7 +31,27 @@ signed_at s at = do
   (z, n) ← signed (drop at s)
   Ok (z, at + n)
 
--- ---- when a number is short: the bytes end before it does, and fewer than ten of them were there
+-- ---- when a number doesn't read
 
+-- short: the bytes end before it does, and fewer than ten of them were there
 abbrev pub EndsEarly : List ℕ → Type 0
 EndsEarly bs = (length bs < 10) × All (λ b. 128 ≤ b) bs
+
+-- what bytes come to, seven bits each, the lowest first
+unfoldable pub value_of : List ℕ → ℕ
+value_of [] = 0
+value_of (b ∷ bs) = b % 128 + 128 * value_of bs
+
+-- too wide: ten bytes are there, the first nine ask for another, and the tenth does too or the value is outside 64 bits
+abbrev pub IsWide : (ℕ → Type 0) → List ℕ → Type 0
+IsWide outside bs =
+    (10 ≤ length bs) × All (λ b. 128 ≤ b) (take 9 bs)
+    × ((128 ≤ slice_index bs 9) ⊎ outside (value_of (take 10 bs)))
+
+-- an unsigned number: from 2^64 on
+abbrev pub IsWideUnsigned : List ℕ → Type 0
+IsWideUnsigned bs = IsWide (λ v. 2 ^ 64 ≤ v) bs
+
+-- a signed one, in two's complement of 70 bits: below -2^63, or above 2^63-1 (`mag z` is n for n, and n for -(n + 1))
+abbrev pub IsWideSigned : List ℕ → Type 0
+IsWideSigned bs = IsWide (λ v. 2 ^ 63 ≤ mag (complement v 10)) bs

@@ -5,6 +5,7 @@
 ghost use Rattle.std.specs.Prelude.{◌≡◌, ◌<◌, ◌↔◌, drop, IfOk, Err};
 ghost use Rattle.gsym_reads.specs.Fronts.{ReadsTo};
 ghost use Rattle.gsym_leb128.specs.Answers.{unsigned_at, signed_at, unsigned_front, signed_front, EndsEarly};
+ghost use Rattle.gsym_leb128.specs.Answers.{IsWideUnsigned, IsWideSigned};
 ghost use Rattle.gsym_leb128.specs.Begun.{Begun};
 
 /// Why a number doesn't read (RULES, "LEB128").
@@ -31,7 +32,10 @@ pub fn unsigned_at(s: &[u8], at: usize) -> Result<(u64, usize), Cause>
     ensures exact { result ≡ unsigned_at s.now at }
     ensures front { ReadsTo s.now result (unsigned_front (drop at s.now)) }
     ensures past { IfOk result (λ read. at < read.1) }
+    // fewer than ten bytes are there, and all ask for another
     ensures short { (result ≡ Err Cause.Short) ↔ EndsEarly (drop at s.now) }
+    // ten are there, nine ask for another, and the tenth does too or the value is outside 64 bits
+    ensures wide { (result ≡ Err Cause.Wide) ↔ IsWideUnsigned (drop at s.now) }
 {
     // The value of the bytes passed, and the weight of the next one, which counts them.
     let mut sum: u64 = 0;
@@ -95,6 +99,7 @@ pub fn signed_at(s: &[u8], at: usize) -> Result<(i64, usize), Cause>
     ensures front { ReadsTo s.now result (signed_front (drop at s.now)) }
     ensures past { IfOk result (λ read. at < read.1) }
     ensures short { (result ≡ Err Cause.Short) ↔ EndsEarly (drop at s.now) }
+    ensures wide { (result ≡ Err Cause.Wide) ↔ IsWideSigned (drop at s.now) }
 {
     // As in `unsigned_at`; a loop that both share stays a call (docs/DECISIONS.md, D5). The bit 64 of the last byte is
     // the sign: its seven bits count from -64 to 63. It is told by arithmetic: a branch on it is hard to foresee.

@@ -2,6 +2,7 @@ mod Factor
 mod Numbers
 mod Quickly
 pub mod Unread
+mod Cut
 pub mod Progress
 pub mod Runs
 pub mod Choice

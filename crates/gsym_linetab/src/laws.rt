@@ -1,10 +1,11 @@
 //! Laws of the definitions that contracts name. Nothing runs here: each clause is about the definitions alone.
-ghost use Rattle.std.specs.Prelude.{◌≡◌, ◌<◌, Option, Some, None, Ok, Err};
+ghost use Rattle.std.specs.Prelude.{◌≡◌, ◌⊎◌, ◌++◌, ◌<◌, ℕ, List, Option, Some, None, Ok, Err};
+ghost use Rattle.gsym_leb128.specs.declared.Cause.TheVariants.{Short};
 ghost use Rattle.gsym_linetab.specs.declared.LineTableRow.{LineTableRow};
 ghost use Rattle.gsym_linetab.specs.declared.LineState.{LineState};
 ghost use Rattle.gsym_linetab.specs.declared.Ending.{Ending};
 ghost use Rattle.gsym_linetab.specs.declared.RunResult.TheVariants.{NewRow};
-ghost use Rattle.gsym_linetab.specs.Machine.{step_of};
+ghost use Rattle.gsym_linetab.specs.Machine.{header_of, step_of};
 ghost use Rattle.gsym_linetab.specs.Rows.{row_for, row_from};
 ghost use Rattle.gsym_linetab.specs.Reaches.{Reaches};
 ghost use Rattle.gsym_linetab.specs.Examples.{TableExample, WrapExamples};
@@ -18,6 +19,13 @@ use gsym_types::Address;
 pub fn whole_table()
     ensures table { TableExample }
     ensures wraps { WrapExamples }
+{}
+
+/// A header that is cut is short, or is that of the whole: no cut makes a number of it too wide (RULES, "Line table").
+#[tactic(auto, using(crate::proofs::Cut::header_cut))]
+pub fn cut_headers()
+    ensures { (front rest : List ℕ) (at : ℕ)
+        → (header_of front at ≡ Err Short) ⊎ (header_of front at ≡ header_of (front ++ rest) at) }
 {}
 
 /// A program may be left and gone on with: from a state that its run for an address reaches, the row is the one from

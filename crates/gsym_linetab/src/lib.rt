@@ -1,5 +1,5 @@
 //! The line table of a symbol: its header, its program one opcode at a time, and the row of an address (RULES, "Line
-//! table"). A header that doesn't read is told with its cause; which refusal that is, is left to the caller.
+//! table"). A header that doesn't read is told with its cause, and `header_refusal` says which refusal that is.
 #![tactic(auto)]
 
 mod laws;
@@ -9,14 +9,14 @@ mod quick;
 ghost use Rattle.std.specs.Prelude.{◌≡◌, ◌↔◌, ◌≤◌, IfOk, IsErrOf, Ok, Err, length};
 ghost use Rattle.gsym_linetab.specs.declared.Ending.TheVariants.{Stopped, UsedUp};
 ghost use Rattle.gsym_linetab.specs.Machine.{header_of, start_row, step_of};
-ghost use Rattle.gsym_linetab.specs.Unread.{IsUnread, IsStop};
+ghost use Rattle.gsym_linetab.specs.Unread.{IsUnread, IsStop, header_refusal};
 ghost use Rattle.gsym_linetab.specs.Rows.{Run, run_of, row_for, row_from, table_of, line_row};
 ghost use Rattle.gsym_linetab.specs.RowFor.{IsRowFor};
 ghost use Rattle.gsym_linetab.specs.Endings.{ending_of, LineInFull, LineStops, EndsInFull};
 
 use gsym_leb128::Cause;
-use gsym_types::{Address, FileIndex, LineNumber};
-pub use laws::{left_and_gone_on_with, whole_table};
+use gsym_types::{Address, FileIndex, LineNumber, Refusal};
+pub use laws::{cut_headers, left_and_gone_on_with, whole_table};
 use opcode::{advance_line, advance_pc, range_of, set_file, special};
 use quick::{Plan, first_maker, quick_rows};
 
@@ -117,6 +117,17 @@ pub fn parse(block: &[u8], at: usize) -> Result<(LineTableHeader, usize), Cause>
         first_line,
     };
     Ok((header, next))
+}
+
+/// The refusal of a header that doesn't read: 9 where a number is cut short, 15 where it is too wide (RULES, "Line
+/// table").
+pub fn header_refusal(cause: Cause) -> Refusal
+    ensures { result ≡ header_refusal cause }
+{
+    match cause {
+        Cause::Short => Refusal::UnreadLineHeader,
+        Cause::Wide => Refusal::TooWide,
+    }
 }
 
 /// The state's row before the first opcode: the symbol's address, file 1, the first line (RULES, "Line table").

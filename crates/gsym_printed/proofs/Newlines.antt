@@ -232,3 +232,4 @@ name-unbroken refused.InlineSumTooLarge = none (name_of refused.InlineSumTooLarg
 name-unbroken refused.CallFileTooLarge = none (name_of refused.CallFileTooLarge) refl
 name-unbroken refused.TooDeep = none (name_of refused.TooDeep) refl
 name-unbroken refused.TooManyFrames = none (name_of refused.TooManyFrames) refl
+name-unbroken refused.TooWide = none (name_of refused.TooWide) refl

@@ -262,6 +262,7 @@ plain-name refused.InlineSumTooLarge = plain-bytes _ refl
 plain-name refused.CallFileTooLarge = plain-bytes _ refl
 plain-name refused.TooDeep = plain-bytes _ refl
 plain-name refused.TooManyFrames = plain-bytes _ refl
+plain-name refused.TooWide = plain-bytes _ refl
 
 plain-unknown : (view : View) → IsPlain (unknown_text view)
 unfolding unknown_text

@@ -5,7 +5,8 @@
 use Rattle.std.specs.Prelude.{◌≡◌, ℕ, ◌-◌, ◌^◌, true, false, List, [], ◌∷◌, ◌++◌, codes, Option, Some, None, Result, Ok}
 use Rattle.gsym_types.specs.declared.Position.{Position}
 use Rattle.gsym_types.specs.declared.Refusal.{Refusal}
-use Rattle.gsym_types.specs.declared.Refusal.TheVariants.{UnknownAddress, UnreadName, TooManyFrames}
+use Rattle.gsym_types.specs.declared.Refusal.TheVariants.{UnknownAddress, UnreadName, UnreadLineHeader, UnreadInline}
+use Rattle.gsym_types.specs.declared.Refusal.TheVariants.{TooWide}
 use Rattle.gsym_types.specs.declared.Text.{Text}
 use Rattle.gsym_resolver.specs.Lookup.{LookedUp}
 use Rattle.gsym_resolver.specs.WholeLookups.{file}
@@ -267,4 +268,8 @@ pub record ValueExamples : Type 0 where
       refused_text fr UnreadName
       ≡ codes "?6 the name of the symbol or of an inlined call doesn't read, or is not UTF-8\n"
       ++ codes "?6 the name of the symbol or of an inlined call doesn't read, or is not UTF-8\n"
-  pub last_refusal : refused_text r TooManyFrames ≡ codes "?14 more frames than there is room for\n"
+  pub cut_header :
+      refused_text r UnreadLineHeader ≡ codes "?9 the header of a line table doesn't read: it is cut short\n"
+  pub cut_block : refused_text r UnreadInline ≡ codes "?10 an inline block doesn't read: it is cut short\n"
+  pub last_refusal :
+      refused_text r TooWide ≡ codes "?15 a number wider than 64 bits: from a broken producer, not a torn file\n"

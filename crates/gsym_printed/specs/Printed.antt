@@ -93,12 +93,13 @@ name_of refused.UnreadInfo = codes "the symbol's information doesn't read"
 name_of refused.UnreadName = codes "the name of the symbol or of an inlined call doesn't read, or is not UTF-8"
 name_of refused.UnknownFile = codes "a file index that is not below the file count"
 name_of refused.UnreadPath = codes "a directory or a file name doesn't read"
-name_of refused.UnreadLineHeader = codes "the header of a line table doesn't read"
-name_of refused.UnreadInline = codes "an inline block doesn't read"
+name_of refused.UnreadLineHeader = codes "the header of a line table doesn't read: it is cut short"
+name_of refused.UnreadInline = codes "an inline block doesn't read: it is cut short"
 name_of refused.InlineSumTooLarge = codes "an inline range starts or ends above 2^64-1"
 name_of refused.CallFileTooLarge = codes "a call file above 4,294,967,295"
 name_of refused.TooDeep = codes "inlined calls on more than 64 levels"
 name_of refused.TooManyFrames = codes "more frames than there is room for"
+name_of refused.TooWide = codes "a number wider than 64 bits: from a broken producer, not a torn file"
 
 -- `??` for the function and `??:0` for the position
 unfoldable pub unknown_text : View → List ℕ

@@ -204,12 +204,13 @@ pub fn refusal_name(refusal: Refusal) -> &'static str
         }
         Refusal::UnknownFile => "a file index that is not below the file count",
         Refusal::UnreadPath => "a directory or a file name doesn't read",
-        Refusal::UnreadLineHeader => "the header of a line table doesn't read",
-        Refusal::UnreadInline => "an inline block doesn't read",
+        Refusal::UnreadLineHeader => "the header of a line table doesn't read: it is cut short",
+        Refusal::UnreadInline => "an inline block doesn't read: it is cut short",
         Refusal::InlineSumTooLarge => "an inline range starts or ends above 2^64-1",
         Refusal::CallFileTooLarge => "a call file above 4,294,967,295",
         Refusal::TooDeep => "inlined calls on more than 64 levels",
         Refusal::TooManyFrames => "more frames than there is room for",
+        Refusal::TooWide => "a number wider than 64 bits: from a broken producer, not a torn file",
     }
 }
 

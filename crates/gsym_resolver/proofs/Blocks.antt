@@ -25,7 +25,7 @@ module _ (symbol addr room : ℕ) (bytes : List ℕ) where
   pub listed_room : (fs : List InlineFrame) → ListsFrames symbol addr room bytes fs → length fs ≤ room
   listed_room fs L = block_room symbol addr room bytes fs ((block_listed fs).1 L)
 
-  -- a first fault is one of 10 to 14
+  -- a first fault is one of 10 to 15
   pub fault_number :
-      (r : Refusal) → FirstFault room (steps_of symbol addr bytes) r → (10 ≤ number_of r) × (number_of r ≤ 14)
+      (r : Refusal) → FirstFault room (steps_of symbol addr bytes) r → (10 ≤ number_of r) × (number_of r ≤ 15)
   fault_number r F = refused-number symbol addr room bytes r ((block_refused r).1 F)

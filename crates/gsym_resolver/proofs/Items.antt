@@ -11,11 +11,10 @@ use Rattle.gsym_reads.proofs.Steps.{through}
 use Rattle.gsym_leb128.specs.declared.Cause.{Cause}
 use Rattle.gsym_types.specs.declared.InlineFrame.{InlineFrame}
 use Rattle.gsym_types.specs.declared.Refusal.{Refusal}
-use Rattle.gsym_types.specs.declared.Refusal.TheVariants as refused
 use Rattle.gsym_linetab.specs.declared.LineTableRow.{LineTableRow}
 use Rattle.gsym_linetab.specs.declared.LineTableHeader.{LineTableHeader}
 use Rattle.gsym_linetab.specs.Machine.{header_of, start_row}
-use Rattle.gsym_linetab.specs.Unread.{IsUnread}
+use Rattle.gsym_linetab.specs.Unread.{IsUnread, header_refusal}
 use Rattle.gsym_linetab.proofs.Unread.{header_refused}
 use Rattle.gsym_linetab.specs.Rows.{run_of, row_in, table_of, line_row}
 use Rattle.gsym_types.specs.declared.Address.{Address}
@@ -80,7 +79,7 @@ module _ (q : Question) where
     RowGiven (Ok None) = GivesNoRow q item
     RowGiven (Ok (Some r)) = GivesRow q r item
     RowGiven (Err x) =
-        (x ≡ refused.UnreadLineHeader) × (item.kind ≡ 1) × ((c : Cause) × IsUnread item.bytes 0 c)
+        (item.kind ≡ 1) × ((c : Cause) × (x ≡ header_refusal c) × IsUnread item.bytes 0 c)
 
     row_given : RowGiven (row_after q item None)
     row_given =
@@ -89,10 +88,10 @@ module _ (q : Question) where
         (λ k z. absurd (eqb-false item.kind 1 k z))
       where
         line : item.kind ≡ 1 → (l : Result (Option LineTableRow) Cause) → line_row item.bytes q.symbol q.addr ≡ l →
-            RowGiven (told (λ _. refused.UnreadLineHeader) l)
+            RowGiven (told header_refusal l)
         line k (Ok None) m = λ z. (table None).0 m
         line k (Ok (Some r)) m = (k, (table (Some r)).0 m)
-        line k (Err c) m = (refl, k, (c, (header_unread item.bytes q.symbol q.addr c).1 m))
+        line k (Err c) m = (k, (c, refl, (header_unread item.bytes q.symbol q.addr c).1 m))
 
     row_back : (r s known : Option LineTableRow) → row_after q item r ≡ Ok known → RowFrom known items s →
         RowFrom r (item ∷ items) s
@@ -107,7 +106,8 @@ module _ (q : Question) where
         ItemRefuses q r fs item x
     row_refuses (Some r) fs x e = absurd cc
     row_refuses None fs x e =
-        let g = subst RowGiven e row_given in subst (ItemRefuses q None fs item) (sym g.0) (header g.2.0 refl g.1 g.2.1)
+        let g = subst RowGiven e row_given in
+        subst (ItemRefuses q None fs item) (sym g.1.1) (header g.1.0 refl g.0 g.1.2)
 
     row_pass : GivesNoRow q item → row_after q item None ≡ Ok None
     row_pass n =

@@ -1,19 +1,24 @@
--- Which refusals a lookup can give: without inlining those of 1 to 9, without code info those of 1 to 6; those of 10 to
--- 14 are the first fault of one of the entry's blocks; and which come from opening, from the search, from the entry.
+-- Which refusals a lookup can give: without inlining those of 1 to 9 and 15, without code info those of 1 to 6. Those
+-- of 10 to 14 are the first fault of one of the entry's blocks, 9 the header's of one of its line tables, 15 either's;
+-- and which come from opening, from the search, from the entry.
 -- Assumes nothing.
 use Rattle.std.proofs.Common.{◌≡◌, ◌≤◌, ◌⊎◌, inl, inr, ⊎_elim, Some, None, Ok, Err, Option, ℕ, true, false, List, []}
-use Rattle.std.proofs.Common.{◌∷◌, ◌++◌, refl, arith}
+use Rattle.std.proofs.Common.{◌∷◌, ◌++◌, refl, ap, arith}
 use Rattle.std.specs.List.{All}
 use Rattle.gsym_types.specs.declared.Address.{Address}
 use Rattle.gsym_types.specs.declared.InlineFrame.{InlineFrame}
 use Rattle.gsym_types.specs.declared.Options.{Options}
 use Rattle.gsym_types.specs.declared.Refusal.{Refusal}
 use Rattle.gsym_types.specs.declared.Refusal.TheVariants.{UnknownAddress, UnreadInfo, UnreadName}
+use Rattle.gsym_types.specs.declared.Refusal.TheVariants.{UnreadLineHeader, TooWide}
 use Rattle.gsym_types.specs.Refusal.{number_of}
 use Rattle.gsym_parser.specs.Unopened.{Unopened, no_magic, other_magic, no_version, other_version, no_header}
 use Rattle.gsym_parser.specs.Unopened.{no_offsets, no_files, no_strings}
 use Rattle.gsym_parser.specs.View.{View}
+use Rattle.gsym_leb128.specs.declared.Cause.{Cause}
+use Rattle.gsym_leb128.specs.declared.Cause.TheVariants.{Short, Wide}
 use Rattle.gsym_linetab.specs.declared.LineTableRow.{LineTableRow}
+use Rattle.gsym_linetab.specs.Unread.{header_refusal}
 use Rattle.gsym_parser.specs.Header.{opened_of}
 use Rattle.gsym_parser.specs.Search.{find_of, Nowhere}
 use Rattle.gsym_parser.specs.Entries.{symbol_at, covered_by}
@@ -22,12 +27,14 @@ use Rattle.gsym_resolver.specs.EntryData.{data_at, Entered}
 use Rattle.gsym_resolver.specs.SharedTables.{SharedTables, shared_tables, HasName}
 use Rattle.gsym_resolver.specs.Known.{Question}
 use Rattle.gsym_resolver.specs.Lookup.{lookup_of}
-use Rattle.gsym_resolver.specs.Met.{First, GivesNoFrames, FramesAre, no_inlining, no_frames, frames, ItemRefuses}
+use Rattle.gsym_resolver.specs.Met as met
+use Rattle.gsym_resolver.specs.Met.{First, GivesNoRow, RowIs, no_row}
+use Rattle.gsym_resolver.specs.Met.{GivesNoFrames, FramesAre, no_inlining, no_frames, frames, ItemRefuses}
 use Rattle.gsym_resolver.specs.Met.{header, block, FirstRefusing}
 use Rattle.gsym_resolver.specs.Met.{NoPosition, no_file, no_dir, no_file_name, NoCall, no_name, no_site}
 use Rattle.gsym_resolver.specs.Met.{Unanswered, uncovered, unnamed, unread, unplaced, first_unnamed, uncalled}
 use Rattle.gsym_resolver.specs.Met.{entry_question, Met, not_opened, not_found, no_info, by_entry}
-use Rattle.gsym_resolver.specs.Blocks.{asked_of, BlockRefuses, RefusedByBlock}
+use Rattle.gsym_resolver.specs.Blocks.{asked_of, BlockRefuses, RefusedByBlock, HeaderRefuses, RefusedByHeader}
 use Rattle.gsym_resolver.proofs.Blocks.{fault_number}
 use Rattle.gsym_resolver.proofs.Lookups.{lookup_met}
 
@@ -53,16 +60,31 @@ module _ (q : Question) (items : List ItemData) where
   none_listed before fs (no_frames a) e t = a
   none_listed before fs (frames i F) e t = absurd cc
 
-  item_number : (r : Refusal) → FirstRefusing q items r → (number_of r ≡ 9) ⊎ FirstBlock r
-  item_number r F = go r F.before F.this F.after F.split F.known_row F.known_frames F.frames_are F.refuses
+  abbrev FirstTable : Refusal → Type 0
+  FirstTable r = First (GivesNoRow q) (HeaderRefuses q r) items
+
+  none_given : (before : List ItemData) (known : Option LineTableRow) → RowIs q before known → known ≡ None →
+      All (GivesNoRow q) before
+  none_given before known (no_row a) e = a
+  none_given before known (met.row F) e = absurd cc
+
+  item_number : (r : Refusal) → FirstRefusing q items r → FirstTable r ⊎ FirstBlock r
+  item_number r F = go r F.before F.this F.after F.split F.known_row F.row_is F.known_frames F.frames_are F.refuses
     where
       go : (x : Refusal) (before : List ItemData) (this : ItemData) (after : List ItemData) →
           items ≡ before ++ this ∷ after →
-          (known : Option LineTableRow) (fs : List InlineFrame) → FramesAre q before fs →
+          (known : Option LineTableRow) → RowIs q before known → (fs : List InlineFrame) → FramesAre q before fs →
           ItemRefuses q known fs this x →
-          (number_of x ≡ 9) ⊎ FirstBlock x
-      go x before this after s known fs A (header c n k e) = inl refl
-      go x before this after s known fs A (block r i n k f) = inr (
+          FirstTable x ⊎ FirstBlock x
+      go x before this after s known R fs A (header c n k e) = inl (record {
+        before = before;
+        this = this;
+        after = after;
+        split = s;
+        each = none_given before known R n;
+        holds = (k, (c, e, refl));
+      })
+      go x before this after s known R fs A (block r i n k f) = inr (
         i,
         record {
           before = before;
@@ -102,10 +124,17 @@ data Numbered (file : List ℕ) (addr : Address) (o : Options) (room : ℕ) (r :
       Numbered file addr o room r
   is_unnamed : (E : Entered file addr) → covered_by addr (symbol_at E.view E.index) E.entry.size ≡ true →
       (HasName (shared_tables E.view) E.entry.name → ⊥) → number_of r ≡ 6 → Numbered file addr o room r
-  is_asked : o.code_info ≡ true → 6 ≤ number_of r → number_of r ≤ 9 → Numbered file addr o room r
+  is_asked : o.code_info ≡ true → 6 ≤ number_of r → number_of r ≤ 8 → Numbered file addr o room r
+  is_cut : RefusedByHeader file addr o room r → number_of r ≡ 9 → Numbered file addr o room r
+  is_wide : RefusedByHeader file addr o room r → number_of r ≡ 15 → Numbered file addr o room r
   is_block : RefusedByBlock file addr o room r → 10 ≤ number_of r → Numbered file addr o room r
 
 module _ (file : List ℕ) (addr : Address) (o : Options) (room : ℕ) where
+  header_numbered : (r : Refusal) (c : Cause) → r ≡ header_refusal c → RefusedByHeader file addr o room r →
+      Numbered file addr o room r
+  header_numbered r Short e h = is_cut h (ap number_of e)
+  header_numbered r Wide e h = is_wide h (ap number_of e)
+
   entry_numbered :
       (E : Entered file addr) (r : Refusal) →
       Unanswered (entry_question E o room) r → Numbered file addr o room r
@@ -113,7 +142,8 @@ module _ (file : List ℕ) (addr : Address) (o : Options) (room : ℕ) where
   entry_numbered E r (unnamed c n) = is_unnamed E c n refl
   entry_numbered E r (unread A F) =
       ⊎_elim
-      (λ (e : number_of r ≡ 9). is_asked A.code (omega arith) (omega arith))
+      (λ (t : FirstTable (asked_of E o room) E.entry.items r).
+      header_numbered r t.holds.1.0 t.holds.1.2 (record { entered = E; asked = A; table = t }))
       (λ (b : FirstBlock (asked_of E o room) E.entry.items r).
       is_block (record { entered = E; asked = A; inlining = b.0; block = b.1 })
       (fault_number (symbol_at E.view E.index).0 addr.0 room b.1.this.bytes r b.1.holds.1).0)
@@ -136,9 +166,9 @@ module _ (file : List ℕ) (addr : Address) (o : Options) (room : ℕ) where
   numbered r e = met_numbered r (lookup_met file addr o room r e)
 
   -- 10 to 14 are the first fault of a block
-  pub refused_by_block :
-      (r : Refusal) → 10 ≤ number_of r → lookup_of file addr o room ≡ Err r → RefusedByBlock file addr o room r
-  refused_by_block r l e = go (numbered r e)
+  pub refused_by_block : (r : Refusal) → 10 ≤ number_of r → number_of r ≤ 14 → lookup_of file addr o room ≡ Err r →
+      RefusedByBlock file addr o room r
+  refused_by_block r l t e = go (numbered r e)
     where
       go : Numbered file addr o room r → RefusedByBlock file addr o room r
       go (is_opening u n) = absurd (omega arith)
@@ -147,19 +177,58 @@ module _ (file : List ℕ) (addr : Address) (o : Options) (room : ℕ) where
       go (is_unread v i e f k n) = absurd (omega arith)
       go (is_unnamed E c n m) = absurd (omega arith)
       go (is_asked k n m) = absurd (omega arith)
+      go (is_cut H n) = absurd (omega arith)
+      go (is_wide H n) = absurd (omega arith)
       go (is_block B n) = B
 
+  -- 9 is the header's of a line table
+  pub refused_by_header :
+      lookup_of file addr o room ≡ Err UnreadLineHeader → RefusedByHeader file addr o room UnreadLineHeader
+  refused_by_header e = go (numbered UnreadLineHeader e)
+    where
+      go : Numbered file addr o room UnreadLineHeader → RefusedByHeader file addr o room UnreadLineHeader
+      go (is_opening u n) = absurd (omega arith)
+      go (is_nowhere v e w n) = absurd (omega arith)
+      go (is_uncovered E c n) = absurd (omega arith)
+      go (is_unread v i e f k n) = absurd (omega arith)
+      go (is_unnamed E c n m) = absurd (omega arith)
+      go (is_asked k n m) = absurd (omega arith)
+      go (is_cut H n) = H
+      go (is_wide H n) = absurd (omega arith)
+      go (is_block B n) = absurd (omega arith)
+
+  -- 15 is the first fault of a block, or the header's of a line table
+  abbrev TooWideIn : Type 0
+  TooWideIn = RefusedByBlock file addr o room TooWide ⊎ RefusedByHeader file addr o room TooWide
+
+  pub refused_wide : lookup_of file addr o room ≡ Err TooWide → TooWideIn
+  refused_wide e = go (numbered TooWide e)
+    where
+      go : Numbered file addr o room TooWide → TooWideIn
+      go (is_opening u n) = absurd (omega arith)
+      go (is_nowhere v e w n) = absurd (omega arith)
+      go (is_uncovered E c n) = absurd (omega arith)
+      go (is_unread v i e f k n) = absurd (omega arith)
+      go (is_unnamed E c n m) = absurd (omega arith)
+      go (is_asked k n m) = absurd (omega arith)
+      go (is_cut H n) = absurd (omega arith)
+      go (is_wide H n) = inr H
+      go (is_block B n) = inl B
+
   -- without inlining no inline block refuses
-  pub plain_number : o.inlining ≡ false → (r : Refusal) → lookup_of file addr o room ≡ Err r → number_of r ≤ 9
+  pub plain_number : o.inlining ≡ false → (r : Refusal) → lookup_of file addr o room ≡ Err r →
+      (number_of r ≤ 9) ⊎ (number_of r ≡ 15)
   plain_number i r e = go (numbered r e)
     where
-      go : Numbered file addr o room r → number_of r ≤ 9
-      go (is_opening u n) = omega arith
-      go (is_nowhere v e w n) = omega arith
-      go (is_uncovered E c n) = omega arith
-      go (is_unread v i e f k n) = omega arith
-      go (is_unnamed E c n m) = omega arith
-      go (is_asked k n m) = m
+      go : Numbered file addr o room r → (number_of r ≤ 9) ⊎ (number_of r ≡ 15)
+      go (is_opening u n) = inl (omega arith)
+      go (is_nowhere v e w n) = inl (omega arith)
+      go (is_uncovered E c n) = inl (omega arith)
+      go (is_unread v i e f k n) = inl (omega arith)
+      go (is_unnamed E c n m) = inl (omega arith)
+      go (is_asked k n m) = inl (omega arith)
+      go (is_cut H n) = inl (omega arith)
+      go (is_wide H n) = inr n
       go (is_block B n) = let t = B.inlining in absurd cc
 
   -- without code info nothing of the list is read
@@ -173,6 +242,8 @@ module _ (file : List ℕ) (addr : Address) (o : Options) (room : ℕ) where
       go (is_unread v i e f k n) = omega arith
       go (is_unnamed E c n m) = omega arith
       go (is_asked t n m) = absurd cc
+      go (is_cut H n) = let t = H.asked.code in absurd cc
+      go (is_wide H n) = let t = H.asked.code in absurd cc
       go (is_block B n) = let t = B.asked.code in absurd cc
 
   -- ---- which are which; `met_lookup` has the other directions
@@ -188,6 +259,8 @@ module _ (file : List ℕ) (addr : Address) (o : Options) (room : ℕ) where
       go (is_unread v i e f k n) = absurd (omega arith)
       go (is_unnamed E c n m) = absurd (omega arith)
       go (is_asked k n m) = absurd (omega arith)
+      go (is_cut H n) = absurd (omega arith)
+      go (is_wide H n) = absurd (omega arith)
       go (is_block B n) = absurd (omega arith)
 
   -- 1: the address is nowhere, or the entry's size doesn't reach it
@@ -206,6 +279,8 @@ module _ (file : List ℕ) (addr : Address) (o : Options) (room : ℕ) where
       go (is_unread v i e f k n) = absurd (omega arith)
       go (is_unnamed E c n m) = absurd (omega arith)
       go (is_asked k n m) = absurd (omega arith)
+      go (is_cut H n) = absurd (omega arith)
+      go (is_wide H n) = absurd (omega arith)
       go (is_block B n) = absurd (omega arith)
 
   -- 5: the entry's information doesn't read
@@ -222,6 +297,8 @@ module _ (file : List ℕ) (addr : Address) (o : Options) (room : ℕ) where
       go (is_unread v i e f k n) = (v, i, e, f, k)
       go (is_unnamed E c n m) = absurd (omega arith)
       go (is_asked k n m) = absurd (omega arith)
+      go (is_cut H n) = absurd (omega arith)
+      go (is_wide H n) = absurd (omega arith)
       go (is_block B n) = absurd (omega arith)
 
   -- 6 without code info: the address is covered, and the symbol's name doesn't read
@@ -240,4 +317,6 @@ module _ (file : List ℕ) (addr : Address) (o : Options) (room : ℕ) where
       go (is_unread v i e f k n) = absurd (omega arith)
       go (is_unnamed E c n m) = (E, c, n)
       go (is_asked t n m) = absurd cc
+      go (is_cut H n) = absurd (omega arith)
+      go (is_wide H n) = absurd (omega arith)
       go (is_block B n) = absurd (omega arith)

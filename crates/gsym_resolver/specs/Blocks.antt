@@ -1,5 +1,6 @@
--- Which inline block a lookup's records or refusal come from (RULES, "Calls"): the first of the entry's blocks that
--- decides, at the same symbol address, bytes, address and room as the single-block call.
+-- Which item a lookup's records or refusal come from (RULES, "Calls"): the first of the entry's inline blocks that
+-- decides, at the same symbol address, bytes, address and room as the single-block call; or the first of its line
+-- tables that does.
 -- Assumes nothing.
 use Rattle.std.specs.Prelude.{Some, Ok, ℕ, true, List, [], ◌∷◌, ◌++◌, ◌≡◌, map}
 use Rattle.gsym_types.specs.declared.Address.{Address}
@@ -9,15 +10,18 @@ use Rattle.gsym_types.specs.declared.Options.{Options}
 use Rattle.gsym_types.specs.declared.Position.{Position}
 use Rattle.gsym_types.specs.declared.Refusal.{Refusal}
 use Rattle.gsym_types.specs.declared.Text.{Text}
+use Rattle.gsym_leb128.specs.declared.Cause.{Cause}
 use Rattle.gsym_linetab.specs.declared.LineTableRow.{LineTableRow}
+use Rattle.gsym_linetab.specs.Unread.{IsUnread, header_refusal}
 use Rattle.gsym_inline.specs.Steps.{steps_of}
 use Rattle.gsym_inline.specs.FirstFault.{FirstFault}
 use Rattle.gsym_parser.specs.Texts.{name_at}
 use Rattle.gsym_parser.specs.Items.{ItemData}
 use Rattle.gsym_resolver.specs.EntryData.{Entered}
-use Rattle.gsym_resolver.specs.Known.{Question, inline_info}
+use Rattle.gsym_resolver.specs.Known.{Question, line_table, inline_info}
 use Rattle.gsym_resolver.specs.Lookup.{LookedUp, position_at, calls_at}
-use Rattle.gsym_resolver.specs.Met.{First, GivesNoFrames, GivesFrames, RowIs, Asked, entry_question, items_question}
+use Rattle.gsym_resolver.specs.Met.{First, GivesNoRow, GivesNoFrames, GivesFrames, RowIs, Asked, entry_question}
+use Rattle.gsym_resolver.specs.Met.{items_question}
 
 -- what a lookup asks of the items of the entry that it lands on
 abbrev pub asked_of : {file : List ℕ} {addr : Address} → Entered file addr → Options → (room : ℕ) → Question
@@ -35,6 +39,18 @@ pub record RefusedByBlock (file : List ℕ) (addr : Address) (o : Options) (room
   pub inlining : o.inlining ≡ true
   pub block : First (GivesNoFrames (asked_of entered o room))
       (BlockRefuses (asked_of entered o room) r) entered.entry.items
+
+-- a line table whose header doesn't read
+abbrev pub HeaderRefuses : Question → Refusal → ItemData → Type 0
+HeaderRefuses q r item = (item.kind ≡ line_table) × ((c : Cause) × IsUnread item.bytes 0 c × (r ≡ header_refusal c))
+
+-- the entry covers the address, its name reads, and a position is asked for; its first line table that doesn't give no
+-- row is refused so
+pub record RefusedByHeader (file : List ℕ) (addr : Address) (o : Options) (room : ℕ) (r : Refusal) : Type 0 where
+  pub entered : Entered file addr
+  pub asked : Asked (entry_question entered o room)
+  pub table : First (GivesNoRow (asked_of entered o room))
+      (HeaderRefuses (asked_of entered o room) r) entered.entry.items
 
 abbrev pub frame_name : Frame → Text
 frame_name f = f.name

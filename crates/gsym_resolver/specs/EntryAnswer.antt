@@ -98,7 +98,7 @@ entry_with_row t symbol d (Some row) fs = do
   p ← position_of t row.file_idx row.file_line
   entry_with_frames t symbol d p fs
 
--- the items in list order (9 to 14), and what they say
+-- the items in list order (9 to 15), and what they say
 unfoldable pub entry_with_code :
     SharedTables → Address → EntryData → Address → Options → (room : ℕ) → Result EntryAnswer Refusal
 entry_with_code t symbol d addr o room = do

@@ -6,9 +6,9 @@ use Rattle.gsym_reads.specs.Steps.{◌>>=◌, told}
 use Rattle.gsym_types.specs.declared.Address.{Address}
 use Rattle.gsym_types.specs.declared.InlineFrame.{InlineFrame}
 use Rattle.gsym_types.specs.declared.Refusal.{Refusal}
-use Rattle.gsym_types.specs.declared.Refusal.TheVariants as refused
 use Rattle.gsym_linetab.specs.declared.LineTableRow.{LineTableRow}
 use Rattle.gsym_linetab.specs.Rows.{line_row}
+use Rattle.gsym_linetab.specs.Unread.{header_refusal}
 use Rattle.gsym_inline.specs.Block.{block_of}
 use Rattle.gsym_parser.specs.Items.{ItemData}
 
@@ -42,15 +42,15 @@ knowing row frames = record { row = row; frames = frames }
 abbrev pub nothing : Known
 nothing = knowing None []
 
--- type 1 is read while no row is known: 9 where its header doesn't read
+-- type 1 is read while no row is known: 9 or 15 where its header doesn't read
 abbrev pub row_after : Question → ItemData → Option LineTableRow → Result (Option LineTableRow) Refusal
 row_after q item (Some row) = Ok (Some row)
 row_after q item None =
     if item.kind == line_table
-    then told (λ _. refused.UnreadLineHeader) (line_row item.bytes q.symbol q.addr)
+    then told header_refusal (line_row item.bytes q.symbol q.addr)
     else Ok None
 
--- type 2 is read if inlining is asked for and no frame is known yet: 10 to 14
+-- type 2 is read if inlining is asked for and no frame is known yet: 10 to 15
 abbrev pub frames_after : Question → ItemData → List InlineFrame → Result (List InlineFrame) Refusal
 frames_after q item (f ∷ fs) = Ok (f ∷ fs)
 frames_after q item [] =

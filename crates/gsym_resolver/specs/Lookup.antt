@@ -1,5 +1,5 @@
 -- A whole lookup, told once in the order of RULES: opening (2, 3, 4), the entry (1), its information (5), its size (1),
--- its name (6), its items in list order (9 to 14), the row's position (7, 8), the first frame's name (6), each later
+-- its name (6), its items in list order (9 to 15), the row's position (7, 8), the first frame's name (6), each later
 -- frame (6, 7, 8), and the positions moved up one. Texts are places of the file. `WithPlaces` tells the same in values.
 -- Assumes nothing.
 use Rattle.std.specs.Prelude.{ℕ, Bool, true, false, List, [], ◌∷◌, length, Some, None, Ok, Err, Option, Result}
@@ -118,7 +118,7 @@ with_row v e (Some row) fs = do
   p ← position_at v row.file_idx row.file_line
   with_frames v e p fs
 
--- the items in list order (9 to 14), and what they say
+-- the items in list order (9 to 15), and what they say
 unfoldable pub with_code : View → Landing → Address → (inlining : Bool) → (room : ℕ) → Result LookedUp Refusal
 with_code v e addr inlining room = do
   known ← read_items (question e.symbol addr room inlining) (items_of e.bytes) nothing

@@ -11,7 +11,7 @@ use Rattle.gsym_types.specs.declared.Options.{Options}
 use Rattle.gsym_types.specs.declared.Refusal.{Refusal}
 use Rattle.gsym_types.specs.declared.Refusal.TheVariants as refused
 use Rattle.gsym_leb128.specs.declared.Cause.{Cause}
-use Rattle.gsym_linetab.specs.Unread.{IsUnread}
+use Rattle.gsym_linetab.specs.Unread.{IsUnread, header_refusal}
 use Rattle.gsym_linetab.specs.Rows.{Run, table_of}
 use Rattle.gsym_linetab.specs.RowFor.{IsRowFor}
 use Rattle.gsym_linetab.specs.declared.LineTableRow.{LineTableRow}
@@ -76,12 +76,13 @@ pub data FramesAre (q : Question) (items : List ItemData) : List InlineFrame →
   frames : {f : InlineFrame} {fs : List InlineFrame} → q.inlining ≡ true →
       First (GivesNoFrames q) (GivesFrames q (f ∷ fs)) items → FramesAre q items (f ∷ fs)
 
--- why an item refuses when it is read, after a row and frames: a line table's header that doesn't read (9), where no
--- row is known; an inline block's first fault (10 to 14), where inlining is asked for and no frame is known
+-- why an item refuses when it is read, after a row and frames: a line table's header that doesn't read (9, or 15 for a
+-- number that is too wide), where no row is known; an inline block's first fault (10 to 15), where inlining is asked
+-- for and no frame is known
 pub data ItemRefuses (q : Question) (known : Option LineTableRow) (fs : List InlineFrame) (item : ItemData)
     : Refusal → Type 0 where
   header : (c : Cause) → known ≡ None → item.kind ≡ line_table → IsUnread item.bytes 0 c →
-      ItemRefuses q known fs item refused.UnreadLineHeader
+      ItemRefuses q known fs item (header_refusal c)
   block : (r : Refusal) → q.inlining ≡ true → fs ≡ [] → item.kind ≡ inline_info →
       FirstFault q.room (steps_of q.symbol.0 q.addr.0 item.bytes) r → ItemRefuses q known fs item r
 
@@ -158,7 +159,7 @@ pub data Unanswered (q : EntryQuestion) : Refusal → Type 0 where
   -- 6: its name doesn't read
   unnamed : covered_by q.addr q.symbol q.entry.size ≡ true → (HasName q.tables q.entry.name → ⊥) →
       Unanswered q refused.UnreadName
-  -- 9 to 14: an item refuses
+  -- 9 to 15: an item refuses
   unread : {r : Refusal} → Asked q → FirstRefusing (items_question q) q.entry.items r → Unanswered q r
   -- 7, 8: the row's position
   unplaced : {r : Refusal} (row : LineTableRow) (fs : List InlineFrame) → ItemsGive q (Some row) fs →
@@ -191,5 +192,5 @@ pub data Met (file : List ℕ) (addr : Address) (o : Options) (room : ℕ) : Ref
   -- 5: the entry's information doesn't read
   no_info : (v : View) (i : ℕ) → opened_of file ≡ Ok v → find_of v addr ≡ Some i → data_at v i ≡ None →
       Met file addr o room refused.UnreadInfo
-  -- 1 and 6 to 14: what the entry says
+  -- 1 and 6 to 15: what the entry says
   by_entry : {r : Refusal} (E : Entered file addr) → Unanswered (entry_question E o room) r → Met file addr o room r

@@ -1,4 +1,5 @@
--- A small file, written out, and whole lookups of it: what each option, a larger address and less room change.
+-- A small file, written out, and whole lookups of it: what each option, a larger address and less room change; and of
+-- files with other items, in which a number is too wide or is cut.
 --
 --   at     bytes                        what
 --   0      48                           header: offset size 2, base 0x1000, one entry, strings at 84
@@ -13,11 +14,12 @@
 -- has one row, of file 1 and line 100.
 -- Assumes nothing.
 use Rattle.std.specs.Prelude.{◌≡◌, ℕ, Bool, true, false, List, [], ◌∷◌, ◌++◌, Option, Some, None, Result, Ok, Err}
-use Rattle.std.specs.Prelude.{replicate}
+use Rattle.std.specs.Prelude.{replicate, length}
 use Rattle.gsym_types.specs.declared.Frame.{Frame}
 use Rattle.gsym_types.specs.declared.Position.{Position}
 use Rattle.gsym_types.specs.declared.Refusal.{Refusal}
-use Rattle.gsym_types.specs.declared.Refusal.TheVariants.{UnknownAddress, TooManyFrames}
+use Rattle.gsym_types.specs.declared.Refusal.TheVariants.{UnknownAddress, UnreadLineHeader, UnreadInline, TooManyFrames}
+use Rattle.gsym_types.specs.declared.Refusal.TheVariants.{TooWide}
 use Rattle.gsym_types.specs.declared.Text.{Text}
 use Rattle.gsym_resolver.specs.Lookup.{LookedUp, lookup_of}
 
@@ -51,8 +53,19 @@ table = 0x7c ∷ 0x0a ∷ 0x64 ∷ 2 ∷ 0 ∷ 0 ∷ []
 abbrev items : List ℕ
 items = four 9 ++ four 1 ++ (0xff ∷ []) ++ four 2 ++ four 32 ++ tree ++ four 1 ++ four 6 ++ table ++ four 0
 
+abbrev file_with : List ℕ → List ℕ
+file_with said = header ++ tables ++ strings ++ four 0x20 ++ four 1 ++ said
+
 abbrev pub file : List ℕ
-file = header ++ tables ++ strings ++ four 0x20 ++ four 1 ++ items
+file = file_with items
+
+-- nine bytes that ask for another, and then one
+abbrev ten : ℕ → List ℕ
+ten last = replicate 9 0x80 ++ (last ∷ [])
+
+-- an item, and the end of the list
+abbrev alone : (kind : ℕ) → List ℕ → List ℕ
+alone kind s = four kind ++ four (length s) ++ s ++ four 0
 
 -- the text of one byte at a place, and a line of a file name at a place, in d
 abbrev letter : ℕ → Text
@@ -67,6 +80,10 @@ found name p count fs = Ok (record {
   answer = record { addr = record { 0 = 0x1000 }; name = letter name; position = p; count = count; size = 0x20 };
   frames = fs;
 })
+
+abbrev looked_up_in : List ℕ → (inlining : Bool) → Result LookedUp Refusal
+looked_up_in said inlining =
+    lookup_of (file_with said) (record { 0 = 0x1005 }) (record { code_info = true; inlining = inlining }) 64
 
 abbrev looked_up_with : (code inlining : Bool) → (room addr : ℕ) → Result LookedUp Refusal
 looked_up_with code inlining room addr =
@@ -94,3 +111,17 @@ pub record WholeLookups : Type 0 where
   -- past the symbol's end, and below the base
   pub past_the_end : looked_up_with true true 64 0x1020 ≡ Err UnknownAddress
   pub below_the_base : looked_up_with true true 64 0xfff ≡ Err UnknownAddress
+  -- a max of 2^63 in a line table's header, asked with inlining and without; and one without its tenth byte
+  pub wide_max : looked_up_in (alone 1 (0 ∷ ten 1)) true ≡ Err TooWide
+  pub wide_max_alone : looked_up_in (alone 1 (0 ∷ ten 1)) false ≡ Err TooWide
+  pub cut_max : looked_up_in (alone 1 (0 ∷ replicate 9 0x80)) true ≡ Err UnreadLineHeader
+  -- a range count of 2^64 in a tree, which is not read without inlining; and one without its tenth byte
+  pub wide_count : looked_up_in (alone 2 (ten 2)) true ≡ Err TooWide
+  pub wide_count_unread : looked_up_in (alone 2 (ten 2)) false ≡ found 85 None 0 []
+  pub cut_count : looked_up_in (alone 2 (replicate 9 0x80)) true ≡ Err UnreadInline
+  -- an operand of 2^64 behind a row ends the program, and so does one without its tenth byte
+  pub wide_operand :
+      looked_up_in (alone 1 ((0x7c ∷ 0x0a ∷ 0x64 ∷ 2 ∷ 0 ∷ 1 ∷ []) ++ ten 2)) true ≡ found 85 (Some (line 97 100)) 0 []
+  pub cut_operand :
+      looked_up_in (alone 1 ((0x7c ∷ 0x0a ∷ 0x64 ∷ 2 ∷ 0 ∷ 1 ∷ []) ++ replicate 9 0x80)) true
+      ≡ found 85 (Some (line 97 100)) 0 []

@@ -5,7 +5,7 @@ ghost use Rattle.std.specs.Result.{result_map_both};
 ghost use Rattle.gsym_types.specs.declared.Address.{Address};
 ghost use Rattle.gsym_types.specs.declared.Options.{Options};
 ghost use Rattle.gsym_types.specs.declared.Refusal.{Refusal};
-ghost use Rattle.gsym_types.specs.declared.Refusal.TheVariants.{TooManyFrames};
+ghost use Rattle.gsym_types.specs.declared.Refusal.TheVariants.{UnreadLineHeader, TooManyFrames, TooWide};
 ghost use Rattle.gsym_types.specs.Refusal.{number_of};
 ghost use Rattle.gsym_parser.specs.Entries.{symbol_at};
 ghost use Rattle.gsym_parser.specs.Search.{entries_of, Allowed, FirstOfGreatest};
@@ -18,7 +18,7 @@ ghost use Rattle.gsym_resolver.specs.EntryAnswer.{entry_answer};
 ghost use Rattle.gsym_resolver.specs.WithPlaces.{lookup_in_values, with_texts, answer_texts};
 ghost use Rattle.gsym_resolver.specs.Met.{Met};
 ghost use Rattle.gsym_resolver.specs.Answered.{Answered};
-ghost use Rattle.gsym_resolver.specs.Blocks.{RefusedByBlock};
+ghost use Rattle.gsym_resolver.specs.Blocks.{RefusedByBlock, RefusedByHeader};
 
 use gsym_types::{Address, Options};
 
@@ -29,7 +29,7 @@ pub fn marked_examples()
 
 /// A file of one symbol, written out, and what its lookups answer: at three addresses with all options, without each of
 /// them, with more and with less room than its frames need, past the symbol and below the base (RULES, "Putting the
-/// answer together").
+/// answer together"); and with other items, in which a number is too wide or is cut (RULES, "Refusal numbers").
 pub fn whole_lookups()
     ensures { WholeLookups }
 {}
@@ -63,15 +63,22 @@ pub fn entry_landed_on()
         → FirstOfGreatest (entries_of e.view) (addr.0 - e.view.tables.base.0) e.index }
 {}
 
-/// Without code info a refusal is one of 1 to 6, without inlining one of 1 to 9; from 10 on it is the first fault of
-/// one of the entry's inline blocks, the first that doesn't list none (RULES, "Refusal numbers" and "Calls").
+/// Without code info a refusal is one of 1 to 6, without inlining one of 1 to 9, or 15. From 10 to 14 it is the first
+/// fault of one of the entry's inline blocks, the first that doesn't list none; 9 is the header's of one of its line
+/// tables, the first that doesn't give none; and 15 is either's (RULES, "Refusal numbers" and "Calls").
 pub fn refusals_by_option()
     ensures bare { (file : List ℕ) (addr : Address) (options : Options) (room : ℕ) → options.code_info ≡ false
         → (r : Refusal) → lookup_of file addr options room ≡ Err r → number_of r ≤ 6 }
     ensures plain { (file : List ℕ) (addr : Address) (options : Options) (room : ℕ) → options.inlining ≡ false
-        → (r : Refusal) → lookup_of file addr options room ≡ Err r → number_of r ≤ 9 }
+        → (r : Refusal) → lookup_of file addr options room ≡ Err r → (number_of r ≤ 9) ⊎ (number_of r ≡ 15) }
     ensures blocks { (file : List ℕ) (addr : Address) (options : Options) (room : ℕ) (r : Refusal) → 10 ≤ number_of r
-        → lookup_of file addr options room ≡ Err r → RefusedByBlock file addr options room r }
+        → number_of r ≤ 14 → lookup_of file addr options room ≡ Err r → RefusedByBlock file addr options room r }
+    ensures header { (file : List ℕ) (addr : Address) (options : Options) (room : ℕ)
+        → lookup_of file addr options room ≡ Err UnreadLineHeader
+        → RefusedByHeader file addr options room UnreadLineHeader }
+    ensures wide { (file : List ℕ) (addr : Address) (options : Options) (room : ℕ)
+        → lookup_of file addr options room ≡ Err TooWide
+        → RefusedByBlock file addr options room TooWide ⊎ RefusedByHeader file addr options room TooWide }
 {}
 
 /// More room changes nothing but that there are too many frames (RULES, "Inline tree"): a lookup with less room is

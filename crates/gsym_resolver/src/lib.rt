@@ -14,7 +14,7 @@ mod later_frames;
 mod laws;
 mod positions;
 
-ghost use Rattle.std.specs.Prelude.{◌≡◌, ◌≤◌, ◌↔◌, false, [], min, length, IfOk, IfErr, IsErrOf};
+ghost use Rattle.std.specs.Prelude.{◌≡◌, ◌≤◌, ◌↔◌, ◌⊎◌, false, [], min, length, IfOk, IfErr, IsErrOf};
 ghost use Rattle.gsym_types.specs.declared.Refusal.{Refusal};
 ghost use Rattle.gsym_types.specs.Refusal.{number_of};
 ghost use Rattle.gsym_inline.specs.Block.{room_of};
@@ -42,7 +42,7 @@ use positions::position_at;
 pub type Records = ArrayVec<Frame, MAX_FRAMES>;
 
 /// The symbol of an address, with its source position if code info is asked for and a line table has one, and without
-/// inlined calls, so that no list is lent and none is kept (RULES, "Calls"). Refused with 1 to 9.
+/// inlined calls, so that no list is lent and none is kept (RULES, "Calls"). Refused with 1 to 9, or 15.
 #[tactic(auto, using(crate::proofs::Calls::call_plain))]
 pub fn lookup_plain(file: &[u8], addr: Address, code_info: bool) -> Result<Answer, Refusal>
     // refused exactly with the refusal whose condition is the first met, in the order of RULES
@@ -50,7 +50,7 @@ pub fn lookup_plain(file: &[u8], addr: Address, code_info: bool) -> Result<Answe
     // else it says what the data of the entry say that the address lands on
     ensures answered { IfOk result (λ a.
         Answered file.now addr (plain_options code_info) 0 (record { answer = a; frames = [] })) }
-    ensures number { IfErr result (λ r. number_of r ≤ 9) }
+    ensures number { IfErr result (λ r. (number_of r ≤ 9) ⊎ (number_of r ≡ 15)) }
     ensures below { IfOk result (λ a. a.addr.0 ≤ addr.0) }
     ensures exact { looked_up result [] ≡ lookup_of file.now addr (plain_options code_info) 0 }
 {
@@ -60,7 +60,7 @@ pub fn lookup_plain(file: &[u8], addr: Address, code_info: bool) -> Result<Answe
 
 /// The symbol of an address with all that is asked for. The later frames become records, in the place of what the list
 /// had. There is room for `room` frames, which count the block's first one, though that becomes no record, for as many
-/// as the list has places, and for 64 at most (RULES, "Inline tree"). A refusal, 1 to 14, and a lookup without both
+/// as the list has places, and for 64 at most (RULES, "Inline tree"). A refusal, 1 to 15, and a lookup without both
 /// options, leaves the list empty.
 pub fn lookup_in<const N: usize>(
     file: &[u8],

@@ -117,9 +117,9 @@ pub extern "C" fn gsym_shown_text(bytes: &[u8], room: &mut [u8]) -> u64
 pub extern "C" fn gsym_refusal_text(number: u32, room: &mut [u8]) -> u64
     ensures named { (r : Refusal) → number ≡ number_of r → IsWritten room.old room.new result (name_of r) }
     ensures zero { number ≡ 0 → (result ≡ 0) × (room.new ≡ room.old) }
-    ensures none { 14 < number → (result ≡ 0) × (room.new ≡ room.old) }
+    ensures none { 15 < number → (result ≡ 0) × (room.new ≡ room.old) }
 {
-    if number > 14 {
+    if number > 15 {
         return 0;
     }
     match Refusal::try_from(number as u8) {

@@ -20,6 +20,7 @@ number_of refused.InlineSumTooLarge = 11
 number_of refused.CallFileTooLarge = 12
 number_of refused.TooDeep = 13
 number_of refused.TooManyFrames = 14
+number_of refused.TooWide = 15
 
 -- the refusal of a number, or that number itself, which no refusal has
 abbrev pub IsNumbered : ℕ → Result Refusal UnknownNumber → Type 0

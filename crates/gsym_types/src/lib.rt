@@ -122,7 +122,7 @@ pub struct Frame {
 /// The most frames that a block may have (RULES, "Inline tree").
 pub const MAX_FRAMES: usize = 64;
 
-/// Why there is no answer, in the order of RULES ("Refusal numbers").
+/// Why there is no answer, by number (RULES, "Refusal numbers").
 #[derive(Clone, Copy, Debug, PartialEq, Eq, PartialOrd, Ord, Hash, Error)]
 pub enum Refusal {
     #[error("no symbol covers the address")]
@@ -141,9 +141,9 @@ pub enum Refusal {
     UnknownFile,
     #[error("a directory or a file name doesn't read")]
     UnreadPath,
-    #[error("the header of a line table doesn't read")]
+    #[error("the header of a line table doesn't read: it is cut short")]
     UnreadLineHeader,
-    #[error("an inline block doesn't read")]
+    #[error("an inline block doesn't read: it is cut short")]
     UnreadInline,
     #[error("an inline range starts or ends above 2^64-1")]
     InlineSumTooLarge,
@@ -153,13 +153,15 @@ pub enum Refusal {
     TooDeep,
     #[error("more frames than there is room for")]
     TooManyFrames,
+    #[error("a number wider than 64 bits: from a broken producer, not a torn file")]
+    TooWide,
 }
 
 impl Refusal {
     /// The number by which hosts know it (RULES, "Refusal numbers").
     pub fn number(self) -> u8
         ensures value { result ≡ number_of self }
-        ensures range { (1 ≤ result) × (result ≤ 14) }
+        ensures range { (1 ≤ result) × (result ≤ 15) }
     {
         match self {
             Refusal::UnknownAddress => 1,
@@ -176,6 +178,7 @@ impl Refusal {
             Refusal::CallFileTooLarge => 12,
             Refusal::TooDeep => 13,
             Refusal::TooManyFrames => 14,
+            Refusal::TooWide => 15,
         }
     }
 }
@@ -206,6 +209,7 @@ impl TryFrom<u8> for Refusal {
             12 => Ok(Refusal::CallFileTooLarge),
             13 => Ok(Refusal::TooDeep),
             14 => Ok(Refusal::TooManyFrames),
+            15 => Ok(Refusal::TooWide),
             _ => Err(UnknownNumber(number)),
         }
     }

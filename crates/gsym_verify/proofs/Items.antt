@@ -10,11 +10,11 @@ use Rattle.gsym_reads.specs.Steps.{◌>>=◌, ◌>>◌, need, told}
 use Rattle.gsym_reads.proofs.Steps.{by_choice}
 use Rattle.gsym_types.specs.declared.Address.{Address}
 use Rattle.gsym_types.specs.declared.Refusal.{Refusal}
-use Rattle.gsym_types.specs.declared.Refusal.TheVariants as refused
 use Rattle.gsym_leb128.specs.declared.Cause.{Cause}
 use Rattle.gsym_linetab.specs.declared.Ending.{Ending}
 use Rattle.gsym_linetab.specs.declared.Ending.TheVariants.{EndSequence, Stopped, UsedUp}
 use Rattle.gsym_linetab.specs.Endings.{ending_of, EndsInFull, LineInFull}
+use Rattle.gsym_linetab.specs.Unread.{header_refusal}
 use Rattle.gsym_linetab.proofs.Endings.{end_full, end_stops, end_unread}
 use Rattle.gsym_inline.specs.Checked.{checked_tree}
 use Rattle.gsym_inline.proofs.CheckedTrees.{check_full}
@@ -41,7 +41,7 @@ module _ (symbol : Address) (bytes : List ℕ) where
     where
       go :
           (x : Result Ending Cause) → ending_of bytes symbol ≡ x →
-          LineSettled (told (λ _. Refused refused.UnreadLineHeader) x >>= ended_well)
+          LineSettled (told (λ c. Refused (header_refusal c)) x >>= ended_well)
       go (Ok (EndSequence n)) e = (end_full bytes symbol _ refl).0 (rw e tt)
       go (Ok Stopped) e = stopped ((end_stops bytes symbol _ refl).0 e)
       go (Ok UsedUp) e = (end_full bytes symbol _ refl).0 (rw e tt)
@@ -51,7 +51,7 @@ module _ (symbol : Address) (bytes : List ℕ) where
   line-good L = go (ending_of bytes symbol) ((end_full bytes symbol _ refl).1 L)
     where
       go : (x : Result Ending Cause) → EndsInFull x →
-          (told (λ _. Refused refused.UnreadLineHeader) x >>= ended_well) ≡ Ok tt
+          (told (λ c. Refused (header_refusal c)) x >>= ended_well) ≡ Ok tt
       go (Ok (EndSequence n)) w = refl
       go (Ok Stopped) w = absurd w
       go (Ok UsedUp) w = refl

@@ -1,9 +1,10 @@
 -- The numbers of what a check finds.
 -- Assumes nothing.
-use Rattle.std.proofs.Common.{◌≡◌, inl, inr, ℕ, ◌≤◌, Err, Ok, Result, IfErr, List, Bool, refl, subst, arith}
+use Rattle.std.proofs.Common.{◌≡◌, inl, inr, ⊎_elim, ℕ, ◌≤◌, Err, Ok, Result, IfErr, List, Bool, refl, subst, arith}
 use Rattle.gsym_types.specs.declared.Address.{Address}
 use Rattle.gsym_types.specs.declared.Refusal.{Refusal}
 use Rattle.gsym_types.specs.Refusal.{number_of}
+use Rattle.gsym_leb128.specs.declared.Cause.TheVariants.{Short, Wide}
 use Rattle.gsym_inline.specs.Steps.{check_steps}
 use Rattle.gsym_inline.specs.FirstFault.{FirstFault}
 use Rattle.gsym_inline.specs.Checked.{checked_tree, IsOfTreeCheck}
@@ -43,28 +44,31 @@ tree-number symbol bytes r F = go (checked_tree symbol bytes) refl ((check_fault
     go x e f = subst (λ (y : Result (Unit {0}) Refusal). IfErr y IsOfTreeCheck) f (check_number symbol bytes _ refl)
 
 line-number : (symbol : Address) (bytes : List ℕ) (f : Fault) → LineFault symbol bytes f → IsOfEntry f
-line-number symbol bytes f (no_line_header c u) = inr (inl (omega arith, omega arith))
-line-number symbol bytes f (stopped s) = inr (inr (omega arith, omega arith))
+line-number symbol bytes f (no_line_header Short u) = inr (inl (omega arith, omega arith))
+line-number symbol bytes f (no_line_header Wide u) = inr (inr (inl refl))
+line-number symbol bytes f (stopped s) = inr (inr (inr (omega arith, omega arith)))
 
 item-number : (symbol : Address) (item : ItemData) (f : Fault) → ItemFault symbol item f → IsOfEntry f
 item-number symbol item f (in_line k l) = line-number symbol item.bytes f l
 item-number symbol item f (in_tree {r} k F) =
-    let n = tree-number symbol.0 item.bytes r F in
-    inr (inl (omega (arith, n.0), n.1))
+    ⊎_elim
+    (λ (n : (10 ≤ number_of r) × (number_of r ≤ 13)). inr (inl (omega (arith, n.0), n.1)))
+    (λ (n : number_of r ≡ 15). inr (inr (inl n)))
+    (tree-number symbol.0 item.bytes r F)
 
 list-number : (symbol : Address) (items : List ItemData) (closed : Bool) (f : Fault)
     → ListFault symbol items closed f → IsOfEntry f
 list-number symbol items closed f (in_item F) = item-number symbol F.this f F.holds
-list-number symbol items closed f (open_list a c) = inr (inr (omega arith, omega arith))
+list-number symbol items closed f (open_list a c) = inr (inr (inr (omega arith, omega arith)))
 
 data-number : (shared : SharedTables) (symbol : ℕ) (said : EntryData) (f : Fault)
     → DataFault shared symbol said f → IsOfEntry f
-data-number shared symbol said f (sum_too_large l) = inr (inr (omega arith, omega arith))
+data-number shared symbol said f (sum_too_large l) = inr (inr (inr (omega arith, omega arith)))
 data-number shared symbol said f (unnamed l n) = inl (omega arith, omega arith)
 data-number shared symbol said f (in_list l n p) = list-number _ said.items said.closed f p
 
 entry-number : (v : View) (i : ℕ) (f : Fault) → EntryFault v i f → IsOfEntry f
-entry-number v i f (falls j e l) = inr (inr (omega arith, omega arith))
+entry-number v i f (falls j e l) = inr (inr (inr (omega arith, omega arith)))
 entry-number v i f (no_info r n) = inl (omega arith, omega arith)
 entry-number v i f (in_data r said e p) = data-number _ _ said f p
 

@@ -1,6 +1,6 @@
 -- The check of a whole file, in the order of RULES ("Checking a file"): opening (2, 3, 4), the offset size (20), and of
 -- each entry that it isn't below the one before it (21), its information (5), its sum (22), its name (6), the items of
--- its list in their order (9 to 13, 23), and the list's end (24).
+-- its list in their order (9 to 13, 15, 23), and the list's end (24).
 -- Assumes nothing.
 use Rattle.std.specs.Prelude.{ℕ, ◌+◌, Bool, true, List, [], ◌∷◌, Option, Some, None, Ok, Err, Result, ◌==◌, nat_le}
 use Rattle.std.specs.Prelude.{is_some, if◌then◌else◌}
@@ -11,6 +11,7 @@ use Rattle.gsym_strtab.specs.Strings.{name_in}
 use Rattle.gsym_linetab.specs.declared.Ending.{Ending}
 use Rattle.gsym_linetab.specs.declared.Ending.TheVariants.{EndSequence, Stopped, UsedUp}
 use Rattle.gsym_linetab.specs.Endings.{ending_of}
+use Rattle.gsym_linetab.specs.Unread.{header_refusal}
 use Rattle.gsym_inline.specs.Limits.{most_address}
 use Rattle.gsym_inline.specs.Checked.{checked_tree}
 use Rattle.gsym_parser.specs.Header.{opened_of}
@@ -34,7 +35,7 @@ ended_well Stopped = Err StoppedProgram
 ended_well UsedUp = Ok tt
 
 abbrev pub line_checked : Address → List ℕ → Result (Unit {0}) Fault
-line_checked symbol bytes = told (λ _. Refused refused.UnreadLineHeader) (ending_of bytes symbol) >>= ended_well
+line_checked symbol bytes = told (λ c. Refused (header_refusal c)) (ending_of bytes symbol) >>= ended_well
 
 -- types 1 and 2 are judged, each item of them, and no others
 unfoldable pub item_checked : Address → ItemData → Result (Unit {0}) Fault

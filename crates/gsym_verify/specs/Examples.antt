@@ -26,6 +26,7 @@ use Rattle.gsym_types.specs.declared.Refusal.TheVariants.{
   InlineSumTooLarge,
   CallFileTooLarge,
   TooDeep,
+  TooWide,
 }
 use Rattle.gsym_verify.specs.Check.{check_of}
 use Rattle.gsym_verify.specs.declared.finding.Fault.TheVariants.{FallingTable, SumTooLarge, StoppedProgram, OpenList}
@@ -56,6 +57,10 @@ abbrev out_of_reach : List ℕ
 out_of_reach =
     (1 ∷ 0 ∷ 0 ∷ 1 ∷ 1 ∷ 0 ∷ 0 ∷ 0 ∷ 0 ∷ 0 ∷ [])
     ++ (1 ∷ 0 ∷ 0 ∷ 0 ∷ 1 ∷ 0 ∷ 0 ∷ 0 ∷ 0x80 ∷ 0x80 ∷ 0x80 ∷ 0x80 ∷ 0x10 ∷ 0 ∷ []) ++ (0 ∷ [])
+
+-- nine bytes that ask for another, and then one
+abbrev ten : ℕ → List ℕ
+ten last = replicate 9 0x80 ++ (last ∷ [])
 
 -- nodes one below the other, on so many levels
 unfoldable pub levels : ℕ → List ℕ → List ℕ
@@ -128,6 +133,13 @@ pub record CheckedFiles : Type 0 where
   pub not_reached : check_of (file_with (item 2 out_of_reach)) ≡ found (Entry 0 (Refused CallFileTooLarge))
   pub too_deep : check_of (file_with (item 2 (levels 65 []))) ≡ found (Entry 0 (Refused TooDeep))
   pub deep : check_of (file_with (item 2 (levels 64 (0 ∷ [])))) ≡ Ok tt
+  -- a max of 2^63 in a line table's header, and one without its tenth byte; a range count of 2^64, and one without it;
+  -- an operand of 2^64
+  pub wide_max : check_of (file_with (item 1 (0 ∷ ten 1))) ≡ found (Entry 0 (Refused TooWide))
+  pub cut_max : check_of (file_with (item 1 (0 ∷ replicate 9 0x80))) ≡ found (Entry 0 (Refused UnreadLineHeader))
+  pub wide_count : check_of (file_with (item 2 (ten 2))) ≡ found (Entry 0 (Refused TooWide))
+  pub cut_count : check_of (file_with (item 2 (replicate 9 0x80))) ≡ found (Entry 0 (Refused UnreadInline))
+  pub wide_operand : check_of (file_with (item 1 (take 3 table ++ 2 ∷ ten 2))) ≡ found (Entry 0 StoppedProgram)
   -- a second line table and a second tree, which no lookup reads
   pub second_table : check_of (file_with (item 1 table ++ item 1 (take 2 table)))
       ≡ found (Entry 0 (Refused UnreadLineHeader))

@@ -8,7 +8,7 @@ use Rattle.gsym_types.specs.declared.Refusal.{Refusal}
 use Rattle.gsym_types.specs.declared.Refusal.TheVariants as refused
 use Rattle.gsym_leb128.specs.declared.Cause.{Cause}
 use Rattle.gsym_linetab.specs.Endings.{LineStops}
-use Rattle.gsym_linetab.specs.Unread.{IsUnread}
+use Rattle.gsym_linetab.specs.Unread.{IsUnread, header_refusal}
 use Rattle.gsym_inline.specs.Limits.{most_address}
 use Rattle.gsym_inline.specs.Steps.{check_steps}
 use Rattle.gsym_inline.specs.FirstFault.{FirstFault}
@@ -30,12 +30,12 @@ use Rattle.gsym_verify.specs.declared.finding.Finding.TheVariants.{Tables, Offse
 
 -- ---- an item
 
--- a line table's header doesn't read (9), or its program is stopped (23)
+-- a line table's header doesn't read (9; 15 for a number that is too wide), or its program is stopped (23)
 pub data LineFault (symbol : Address) (bytes : List ℕ) : Fault → Type 0 where
-  no_header : (c : Cause) → IsUnread bytes 0 c → LineFault symbol bytes (Refused refused.UnreadLineHeader)
+  no_header : (c : Cause) → IsUnread bytes 0 c → LineFault symbol bytes (Refused (header_refusal c))
   stopped : LineStops symbol bytes → LineFault symbol bytes StoppedProgram
 
--- an inline tree's first fault in reading order, where each node is judged (10 to 13)
+-- an inline tree's first fault in reading order, where each node is judged (10 to 13, 15)
 pub data ItemFault (symbol : Address) (item : ItemData) : Fault → Type 0 where
   in_line : {f : Fault} → item.kind ≡ line_table → LineFault symbol item.bytes f → ItemFault symbol item f
   in_tree : {r : Refusal} → item.kind ≡ inline_info → FirstFault 0 (check_steps symbol.0 item.bytes) r →

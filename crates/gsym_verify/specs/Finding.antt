@@ -1,6 +1,6 @@
 -- The number of what a check finds (RULES, "Checking a file").
 -- Assumes nothing.
-use Rattle.std.specs.Prelude.{ℕ, ◌≤◌, ◌⊎◌}
+use Rattle.std.specs.Prelude.{ℕ, ◌≤◌, ◌≡◌, ◌⊎◌}
 use Rattle.gsym_types.specs.Refusal.{number_of}
 use Rattle.gsym_verify.specs.declared.finding.Fault.{Fault}
 use Rattle.gsym_verify.specs.declared.finding.Fault.TheVariants.{FallingTable, SumTooLarge, StoppedProgram, OpenList}
@@ -20,10 +20,11 @@ finding_number (Tables r) = number_of r
 finding_number OffsetSize = 20
 finding_number (Entry i f) = fault_number f
 
--- what a check may find: 2 to 4 and 20 of the tables; of an entry 5 and 6, 9 to 13, 21 to 24
+-- what a check may find: 2 to 4 and 20 of the tables; of an entry 5 and 6, 9 to 13, 15, 21 to 24
 abbrev pub IsOfEntry : Fault → Type 0
 IsOfEntry f = ((5 ≤ fault_number f) × (fault_number f ≤ 6))
-    ⊎ (((9 ≤ fault_number f) × (fault_number f ≤ 13)) ⊎ ((21 ≤ fault_number f) × (fault_number f ≤ 24)))
+    ⊎ (((9 ≤ fault_number f) × (fault_number f ≤ 13))
+    ⊎ ((fault_number f ≡ 15) ⊎ ((21 ≤ fault_number f) × (fault_number f ≤ 24))))
 
 abbrev pub IsOfCheck : Finding → Type 0
 IsOfCheck (Tables r) = (2 ≤ number_of r) × (number_of r ≤ 4)

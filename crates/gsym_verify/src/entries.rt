@@ -13,7 +13,7 @@ ghost use Rattle.gsym_verify.specs.Check.{entry_checked, content_checked};
 use super::finding::{Fault, Finding};
 use super::watch::Watch;
 use gsym_inline::check_tree;
-use gsym_linetab::{Ending, table_end};
+use gsym_linetab::{Ending, header_refusal, table_end};
 use gsym_parser::{AddrInfo, GsymContext, Item, parse_address_data};
 use gsym_types::{Address, Refusal};
 
@@ -30,7 +30,7 @@ fn check_line_table(bytes: &[u8], symbol: Address) -> Result<(), Fault>
         Ok(Ending::Stopped) => Err(Fault::StoppedProgram),
         Ok(Ending::EndSequence(_)) => Ok(()),
         Ok(Ending::UsedUp) => Ok(()),
-        Err(_) => Err(Fault::Refused(Refusal::UnreadLineHeader)),
+        Err(cause) => Err(Fault::Refused(header_refusal(cause))),
     }
 }
 

@@ -21,7 +21,7 @@ pub enum Fault {
     /// The address data list doesn't end in type 0 (24).
     #[error("the address data list doesn't end in type 0")]
     OpenList,
-    /// One that has a refusal's number: 5, 6, 9 to 13.
+    /// One that has a refusal's number: 5, 6, 9 to 13, 15.
     #[error("{0}")]
     Refused(Refusal),
 }
@@ -63,7 +63,7 @@ pub enum Finding {
     Entry {
         /// Which one, counted from 0.
         index: u32,
-        /// Its first fault: 5, 6, 9 to 13, 21 to 24.
+        /// Its first fault: 5, 6, 9 to 13, 15, 21 to 24.
         fault: Fault,
     },
 }

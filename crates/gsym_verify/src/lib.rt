@@ -32,7 +32,7 @@ pub use watch::Watch;
 /// # Errors
 ///
 /// What is found first: the file doesn't open (2, 3, 4), its offset size (20), or the lowest faulty entry and there the
-/// first fault (21, 5, 22, 6, then its list: 9 to 13, 23, 24).
+/// first fault (21, 5, 22, 6, then its list: 9 to 13, 15, 23, 24).
 pub fn check(file: &[u8]) -> Result<(), Finding>
     // It passes exactly if it is good,
     ensures good { IsOk result ↔ Good file.now }
@@ -40,7 +40,7 @@ pub fn check(file: &[u8]) -> Result<(), Finding>
     ensures first { IfErr result (λ found. IsFirstFault file.now found) }
     // no other finding fits.
     ensures only { (found : Finding) → IsFirstFault file.now found → result ≡ Err found }
-    // Of the tables 2 to 4 and 20 are told; of an entry 5 and 6, 9 to 13, 21 to 24.
+    // Of the tables 2 to 4 and 20 are told; of an entry 5 and 6, 9 to 13, 15, 21 to 24.
     ensures number { IfErr result IsOfCheck }
     // In a file that passed every lookup of a name finds it, where a symbol covers the address; one with code info
     // lacks a position at most, and one with inlining too a frame's name or room.

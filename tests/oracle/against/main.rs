@@ -1,5 +1,10 @@
 // Two builds of the library in one process, this tree's and an earlier one whose calls are named `old_..`: the same
-// answer to every call, field by field, the same records, and nothing written past them. Inputs as main's usage has them.
+// answer to every call, field by field, the same records, and nothing written past them. Checks are compared where the
+// earlier one has them (cfg old_has_check). Inputs as main's usage has them.
+// With AGAINST_WIDE the earlier one is of before 15, which it must show: where it has 9 or 10 this one has 15 exactly
+// where the domain's own reading meets a number of a line header or a node that is too wide, and all else is the same.
+// In a table that falls, past a first run and where a sum is too large that reading stops before it knows: there 15 is
+// taken as well as the earlier number, and such calls are counted by themselves.
 #[path = "../compare/domain.rs"]
 #[allow(dead_code)]
 mod domain;
@@ -8,6 +13,7 @@ mod files;
 #[path = "../compare/random.rs"]
 mod random;
 
+use domain::Rule;
 use random::Random;
 use std::fmt::Debug;
 use std::mem::size_of;
@@ -59,6 +65,13 @@ struct Listed {
     number: u32,
 }
 
+#[repr(C)]
+#[derive(Clone, Copy, Debug, PartialEq)]
+struct Finding {
+    number: u32,
+    entry: u32,
+}
+
 type Lookup = unsafe extern "C" fn(*const u8, usize, u64, u32, *mut Frame, usize) -> Answer;
 type Block = unsafe extern "C" fn(*const u8, usize, u64, u64, *mut InlineFrame, usize) -> Listed;
 
@@ -74,6 +87,9 @@ extern "C" {
         frames: *mut InlineFrame,
         room: usize,
     ) -> Listed;
+    #[link_name = "gsym_check_2"]
+    fn gsym_check(file: *const u8, len: usize) -> Finding;
+    fn old_gsym_check(file: *const u8, len: usize) -> Finding;
     fn old_gsym_lookup(file: *const u8, len: usize, addr: u64, options: u32, frames: *mut Frame, room: usize)
         -> Answer;
     fn old_gsym_block_frames(
@@ -85,6 +101,9 @@ extern "C" {
         room: usize,
     ) -> Listed;
 }
+
+// Whether the earlier library has checks. Where it has none old_gsym_check is not called, and needn't be there.
+const CHECKS: bool = cfg!(old_has_check);
 
 // More records than a lookup ever uses.
 const LIST: usize = 66;
@@ -123,14 +142,30 @@ fn list(call: Block, block: &[u8], symbol: u64, addr: u64, room: usize) -> Given
 
 #[derive(Default)]
 struct Tally {
-    numbers: [u64; 16],
+    numbers: [u64; 26],
     differ: u64,
+    // whether the earlier library is of before 15, and how often it said 9 and 10 where 15 is right
+    before_15: bool,
+    wide: [u64; 2],
+    // how often it said 9 or 10 where nothing here knows what is right, and this one said so too, or 15
+    not_judged: [u64; 2],
     // a fault to put into what the library of this tree gave; 0 for none
     fault: u32,
 }
 
-// Faults that the comparison must see, each a change of one answer or record.
-const FAULTS: u32 = 18;
+// Faults that the comparison must see, each a change of one answer or record. Those from the 19th on are rare, and the
+// last four are faults of checks.
+const FAULTS: u32 = if CHECKS { 26 } else { 22 };
+
+// Refusals 9, 10 and 15 where 15 is known: what the earlier library's number becomes by the domain's own reading. None
+// where that stops before it knows.
+fn since_15(old: u32, rule: Option<Rule>) -> Option<u32> {
+    match rule {
+        None | Some(Rule::Level65 | Rule::MoreThanRoom) => Some(old),
+        Some(Rule::TooWide) => Some(15),
+        Some(_) => None,
+    }
+}
 
 fn spoil(fault: u32, g: &mut Given<Answer, Frame>) {
     let a = &mut g.answer;
@@ -151,6 +186,8 @@ fn spoil(fault: u32, g: &mut Given<Answer, Frame>) {
         13 if a.count > 0 => g.list[last].name.place ^= 1,
         14 if a.count > 0 => g.list[0].line ^= 1,
         15 => g.list[a.count as usize].line ^= 1,
+        19 if a.number == 15 => a.number = 10,
+        20 if a.number == 9 => a.number = 15,
         _ => {}
     }
 }
@@ -160,6 +197,18 @@ fn spoil_block(fault: u32, g: &mut Given<Listed, InlineFrame>) {
         16 => g.answer.number ^= u32::from(g.answer.number == 10),
         17 if g.answer.count > 0 => g.list[0].call_line ^= 1,
         18 => g.list[g.answer.count as usize].name ^= 1,
+        21 if g.answer.number == 15 => g.answer.number = 10,
+        22 if g.answer.number == 10 => g.answer.number = 15,
+        _ => {}
+    }
+}
+
+fn spoil_check(fault: u32, f: &mut Finding) {
+    match fault {
+        23 => f.number ^= u32::from(f.number == 23),
+        24 => f.entry ^= 1,
+        25 if f.number == 15 => f.number = 10,
+        26 if f.number == 10 => f.number = 15,
         _ => {}
     }
 }
@@ -178,7 +227,7 @@ impl Tally {
         asked: impl FnOnce() -> String,
         bytes: &[u8],
     ) {
-        self.numbers[number.min(15) as usize] += 1;
+        self.numbers[number.min(25) as usize] += 1;
         if new == old {
             return;
         }
@@ -188,20 +237,63 @@ impl Tally {
         }
     }
 
+    // What an earlier library's refusal is now, where it is of before 15; the same number where that isn't known to be
+    // another. Such a library has no 15: one of its own stays, and differs from all that a call can give.
+    fn now(&mut self, old: u32, new: u32, rule: impl FnOnce() -> Option<Rule>) -> u32 {
+        if !self.before_15 || !matches!(old, 9 | 10 | 15) {
+            return old;
+        }
+        if old == 15 {
+            return u32::MAX;
+        }
+        let Some(number) = since_15(old, rule()) else {
+            self.not_judged[usize::from(new == 15)] += 1;
+            return if new == 15 { new } else { old };
+        };
+        self.wide[old as usize - 9] += u64::from(number == 15);
+        number
+    }
+
     fn lookup(&mut self, file: &[u8], addr: u64, options: u32, room: usize) {
-        let old = look(old_gsym_lookup, file, addr, options, room);
+        let mut old = look(old_gsym_lookup, file, addr, options, room);
         let mut new = look(gsym_lookup, file, addr, options, room);
         spoil(self.fault, &mut new);
+        old.answer.number = self.now(old.answer.number, new.answer.number, || {
+            let mut tables = domain::Tables::of(file)?;
+            tables.reads_on = true;
+            tables.outside(addr, options & 1 != 0, options & 2 != 0, room.min(64))
+        });
         let asked = || format!("lookup {addr:#x}, options {options:#x}, room {room}");
         self.compare(new.answer.number, &old, &new, asked, file);
     }
 
     fn block(&mut self, block: &[u8], symbol: u64, addr: u64, room: usize) {
-        let old = list(old_gsym_block_frames, block, symbol, addr, room);
+        let mut old = list(old_gsym_block_frames, block, symbol, addr, room);
         let mut new = list(gsym_block_frames, block, symbol, addr, room);
         spoil_block(self.fault, &mut new);
+        old.answer.number = self.now(old.answer.number, new.answer.number, || {
+            domain::outside_block(block, symbol, addr, room.min(64))
+        });
         let asked = || format!("block of {symbol:#x} at {addr:#x}, room {room}");
         self.compare(new.answer.number, &old, &new, asked, block);
+    }
+
+    // The check of a whole file.
+    fn check(&mut self, file: &[u8]) {
+        if !CHECKS {
+            return;
+        }
+        let call = |check: unsafe extern "C" fn(*const u8, usize) -> Finding| {
+            let answer = unsafe { check(file.as_ptr(), file.len()) };
+            Given { answer, list: [(); LIST] }
+        };
+        let (mut old, mut new) = (call(old_gsym_check), call(gsym_check));
+        spoil_check(self.fault, &mut new.answer);
+        let entry = old.answer.entry as usize;
+        old.answer.number = self.now(old.answer.number, new.answer.number, || {
+            domain::Tables::of(file)?.first_unread(entry)
+        });
+        self.compare(new.answer.number, &old, &new, || "check".to_string(), file);
     }
 
     // A lookup, and the single blocks that the bytes behind some place would be.
@@ -220,8 +312,13 @@ impl Tally {
         let calls: u64 = self.numbers.iter().sum();
         println!("{name}: {calls} calls, {} differ, {seconds:.1} s", self.differ);
         let numbers: Vec<_> =
-            (0..15).filter(|n| self.numbers[*n] > 0).map(|n| format!("{n}: {}", self.numbers[n])).collect();
+            (0..26).filter(|n| self.numbers[*n] > 0).map(|n| format!("{n}: {}", self.numbers[n])).collect();
         println!("  by number: {}", numbers.join(", "));
+        if self.before_15 {
+            let ([nine, ten], [same, wide]) = (self.wide, self.not_judged);
+            println!("  of 15 the earlier library told {nine} as 9 and {ten} as 10");
+            println!("  of its 9 and 10 {} more are not judged, {wide} of them 15 here", same + wide);
+        }
     }
 }
 
@@ -256,6 +353,7 @@ fn random_files(t: &mut Tally, seed: u64, wanted: u64) {
     let mut r = Random::new(seed);
     while t.numbers.iter().sum::<u64>() < wanted {
         let made = files::make(&mut r);
+        t.check(&made.file);
         for _ in 0..20 {
             let addr = if r.one_in(20) { r.any() } else { r.pick(&made.addrs) };
             t.ask(&mut r, &made.file, addr);
@@ -276,6 +374,7 @@ fn read(path: &String) -> Vec<u8> {
 fn real_files(t: &mut Tally, paths: &[String]) {
     for path in paths {
         let file = read(path);
+        t.check(&file);
         for addr in domain::Tables::of(&file).map_or(vec![0], |t| t.worth_asking()) {
             for options in 0..4 {
                 t.lookup(&file, addr, options, 64);
@@ -307,6 +406,7 @@ fn torn_files(t: &mut Tally, paths: &[String]) {
         let file = read(path);
         let addrs = some_addresses(&mut r, &file);
         for cut in 0..=file.len() {
+            t.check(&file[..cut]);
             for addr in &addrs {
                 t.ask(&mut r, &file[..cut], *addr);
             }
@@ -326,6 +426,7 @@ fn changed_files(t: &mut Tally, copies: u64, paths: &[String]) {
                 let at = r.below(copy.len() as u64) as usize;
                 copy[at] = r.pick(&[0, 1, 2, 0x7f, 0x80, 0xff, copy[at] ^ 1, copy[at].wrapping_add(1)]);
             }
+            t.check(&copy);
             for addr in &addrs {
                 t.ask(&mut r, &copy, *addr);
             }
@@ -335,10 +436,20 @@ fn changed_files(t: &mut Tally, copies: u64, paths: &[String]) {
 
 fn main() {
     assert!(size_of::<Answer>() == 80 && size_of::<Frame>() == 56 && size_of::<InlineFrame>() == 12);
+    assert!(size_of::<Finding>() == 8);
     let args: Vec<String> = std::env::args().skip(1).collect();
     let number = |i: usize| args[i].parse().expect("a number");
     let start = Instant::now();
-    let mut t = Tally::default();
+    // ten bytes that all ask for another: too wide
+    let by = |call: Block| list(call, &[0x80; 10], 0, 0, 0).answer.number;
+    let (old, new) = (by(old_gsym_block_frames), by(gsym_block_frames));
+    let before_15 = std::env::var_os("AGAINST_WIDE").is_some();
+    if before_15 && (old, new) != (10, 15) {
+        println!("AGAINST_WIDE is for an earlier library that refuses a number that is too wide with 10, and one of");
+        println!("this tree that does so with 15; they have {old} and {new}");
+        std::process::exit(1);
+    }
+    let mut t = Tally { before_15, ..Tally::default() };
     let name = match args.first().map(String::as_str) {
         Some("random") => {
             random_files(&mut t, number(1), number(2));
@@ -357,10 +468,15 @@ fn main() {
             "real files with bytes changed"
         }
         Some("faults") => {
-            for fault in 1..=FAULTS {
-                let mut t = Tally { fault, ..Tally::default() };
-                random_files(&mut t, 7, 20_000);
-                assert!(t.differ > 0, "fault {fault} is not seen");
+            let calls = |fault| if fault == 0 || fault > 18 { 1_000_000 } else { 20_000 };
+            for fault in 0..=FAULTS {
+                let mut t = Tally { before_15, fault, ..Tally::default() };
+                random_files(&mut t, 7, calls(fault));
+                if fault == 0 && t.differ > 0 {
+                    println!("{} calls differ without a fault, so that none can be shown to be seen", t.differ);
+                    std::process::exit(1);
+                }
+                assert!(fault == 0 || t.differ > 0, "fault {fault} is not seen");
             }
             println!("{FAULTS} faults in answers and records, each seen");
             return;

@@ -7,16 +7,18 @@ pub enum Rule {
     PastFirstRun,
     SumAbove,
     TooWide,
+    OperandTooWide,
     TenByteSigned,
     Level65,
     MoreThanRoom,
 }
 
-pub const RULES: [(Rule, &str); 7] = [
+pub const RULES: [(Rule, &str); 8] = [
     (Rule::Falls, "an address table that falls"),
     (Rule::PastFirstRun, "an address past equal entries that the table begins with"),
     (Rule::SumAbove, "symbol address plus size above 2^64-1"),
-    (Rule::TooWide, "a LEB128 number too wide"),
+    (Rule::TooWide, "a LEB128 number of a line header or a node too wide"),
+    (Rule::OperandTooWide, "an operand of a line opcode too wide"),
     (Rule::TenByteSigned, "a signed LEB128 number of ten bytes"),
     (Rule::Level65, "a node on level 65"),
     (Rule::MoreThanRoom, "more frames than room"),
@@ -33,6 +35,9 @@ type Read<T> = Result<T, Stop>;
 struct Cursor<'a> {
     bytes: &'a [u8],
     at: usize,
+    // Whether reading goes on, as the reader's does, behind a signed number of ten bytes and where an operand that is
+    // too wide has ended a program: then neither is a rule.
+    reads_on: bool,
 }
 
 impl Cursor<'_> {
@@ -65,11 +70,13 @@ impl Cursor<'_> {
 
     fn signed(&mut self) -> Read<i64> {
         let (value, n) = self.digits()?;
-        if n == 10 {
-            return Err(Stop::Outside(Rule::TenByteSigned));
-        }
         let shift = 128 - 7 * n;
-        Ok(((value << shift) as i128 >> shift) as i64)
+        let value = (value << shift) as i128 >> shift;
+        match i64::try_from(value) {
+            Ok(_) if n == 10 && !self.reads_on => Err(Stop::Outside(Rule::TenByteSigned)),
+            Ok(value) => Ok(value),
+            Err(_) => Err(Stop::Outside(Rule::TooWide)),
+        }
     }
 
     fn u32(&mut self) -> Read<u32> {
@@ -79,11 +86,16 @@ impl Cursor<'_> {
     }
 }
 
-// Whether a line block has a row for the address.
-fn has_row(bytes: &[u8], symbol: u64, addr: u64) -> Read<bool> {
-    let mut c = Cursor { bytes, at: 0 };
+// The header of a line block: min and max.
+fn header(c: &mut Cursor<'_>) -> Read<(i64, i64)> {
     let (min, max) = (c.signed()?, c.signed()?);
     c.unsigned()?;
+    Ok((min, max))
+}
+
+// Whether a line block has a row for the address.
+fn has_row(mut c: Cursor<'_>, symbol: u64, addr: u64) -> Read<bool> {
+    let (min, max) = header(&mut c)?;
     let (mut at, mut made) = (symbol, false);
     loop {
         let step = |c: &mut Cursor<'_>| -> Read<Option<u64>> {
@@ -106,6 +118,8 @@ fn has_row(bytes: &[u8], symbol: u64, addr: u64) -> Read<bool> {
         };
         match step(&mut c) {
             Err(Stop::Fault) => return Ok(made),
+            Err(Stop::Outside(Rule::TooWide)) if c.reads_on => return Ok(made),
+            Err(Stop::Outside(Rule::TooWide)) => return Err(Stop::Outside(Rule::OperandTooWide)),
             Err(outside) => return Err(outside),
             Ok(None) => {}
             Ok(Some(by)) => {
@@ -167,27 +181,26 @@ impl Tree<'_> {
     }
 }
 
+// The rule that puts a single block outside the domain.
+pub fn outside_block(bytes: &[u8], symbol: u64, addr: u64, room: usize) -> Option<Rule> {
+    // where no number is signed, and none an operand
+    let cursor = Cursor { bytes, at: 0, reads_on: false };
+    let mut tree = Tree { cursor, addr, room, frames: 0 };
+    match tree.node(Some(symbol), 1) {
+        Err(Stop::Outside(rule)) => Some(rule),
+        _ => None,
+    }
+}
+
 fn u32_at(file: &[u8], at: usize) -> Option<u32> {
     Some(u32::from_le_bytes(file.get(at..at.checked_add(4)?)?.try_into().ok()?))
 }
 
-// The items of an entry; a fault ends them inside the domain.
-fn items(file: &[u8], mut at: usize, symbol: u64, addr: u64, inlining: bool, room: usize) -> Read<()> {
-    let (mut row, mut frames) = (false, 0);
-    loop {
-        let Some(kind) = u32_at(file, at).filter(|k| *k != 0) else { return Ok(()) };
-        let Some(len) = u32_at(file, at + 4) else { return Ok(()) };
-        let Some(bytes) = file.get(at + 8..at + 8 + len as usize) else { return Ok(()) };
-        at += 8 + len as usize;
-        if kind == 1 && !row {
-            row = has_row(bytes, symbol, addr)?;
-        }
-        if kind == 2 && inlining && frames == 0 {
-            let mut tree = Tree { cursor: Cursor { bytes, at: 0 }, addr, room, frames: 0 };
-            tree.node(Some(symbol), 1)?;
-            frames = tree.frames;
-        }
-    }
+// The item at a place, its type and its bytes; none where the list ends there.
+fn item(file: &[u8], at: usize) -> Option<(u32, &[u8])> {
+    let kind = u32_at(file, at).filter(|k| *k != 0)?;
+    let len = u32_at(file, at + 4)? as usize;
+    Some((kind, file.get(at + 8..at + 8 + len)?))
 }
 
 // A file's tables, as far as the domain asks for them.
@@ -200,6 +213,8 @@ pub struct Tables<'a> {
     never_falls: bool,
     // Whether two entries in a row are equal.
     pub has_runs: bool,
+    // As a cursor's, for the items: then only a table that falls, a first run and a sum hide what the reader meets.
+    pub reads_on: bool,
 }
 
 impl<'a> Tables<'a> {
@@ -226,7 +241,7 @@ impl<'a> Tables<'a> {
         let base = u64::from_le_bytes(file[8..16].try_into().unwrap());
         let never_falls = entries.windows(2).all(|w| w[0] <= w[1]);
         let has_runs = entries.windows(2).any(|w| w[0] == w[1]);
-        Some(Tables { file, base, entries, offsets, strings, never_falls, has_runs })
+        Some(Tables { file, base, entries, offsets, strings, never_falls, has_runs, reads_on: false })
     }
 
     // Addresses at and around the edges of every symbol, and inside it.
@@ -267,9 +282,47 @@ impl<'a> Tables<'a> {
         if !code {
             return None;
         }
-        match items(self.file, place + 8, symbol, addr, inlining, room) {
+        match self.items(place + 8, symbol, addr, inlining, room) {
             Err(Stop::Outside(rule)) => Some(rule),
             _ => None,
         }
+    }
+
+    // The items of an entry; a fault ends them inside the domain.
+    fn items(&self, mut at: usize, symbol: u64, addr: u64, inlining: bool, room: usize) -> Read<()> {
+        let (mut row, mut frames) = (false, 0);
+        while let Some((kind, bytes)) = item(self.file, at) {
+            at += 8 + bytes.len();
+            let cursor = Cursor { bytes, at: 0, reads_on: self.reads_on };
+            if kind == 1 && !row {
+                row = has_row(cursor, symbol, addr)?;
+            } else if kind == 2 && inlining && frames == 0 {
+                let mut tree = Tree { cursor, addr, room, frames: 0 };
+                tree.node(Some(symbol), 1)?;
+                frames = tree.frames;
+            }
+        }
+        Ok(())
+    }
+
+    // For a check that refuses an entry with 9, 10 or 15, so that all before it is well: the rule of the first line
+    // header or tree there that doesn't read; none where it is short.
+    pub fn first_unread(&self, entry: usize) -> Option<Rule> {
+        let mut at = u32_at(self.file, self.offsets + 4 * entry)? as usize + 8;
+        while let Some((kind, bytes)) = item(self.file, at) {
+            at += 8 + bytes.len();
+            let mut cursor = Cursor { bytes, at: 0, reads_on: true };
+            let read = match kind {
+                1 => header(&mut cursor).map(|_| ()),
+                2 => Tree { cursor, addr: 0, room: 0, frames: 0 }.node(None, 1).map(|_| ()),
+                _ => Ok(()),
+            };
+            match read {
+                Ok(()) => {}
+                Err(Stop::Outside(rule)) => return Some(rule),
+                Err(Stop::Fault) => return None,
+            }
+        }
+        None
     }
 }

@@ -1,5 +1,5 @@
 // Whole lookups on both sides: number, every field, every record, and the lent list before and after.
-use crate::domain::Tables;
+use crate::domain::{Rule, Tables};
 use crate::files::Made;
 use crate::random::Random;
 use crate::tally::Tally;
@@ -44,12 +44,22 @@ pub fn compare(tally: &mut Tally, file: &[u8], tables: Option<&Tables<'_>>, addr
     if frames[written.min(66)..].iter().any(|f| *f != MARK) {
         tally.differs(|| format!("a record that should have stayed: {}", told()));
     }
+    let refusal = here.as_ref().err().map_or(0, |r: &Refusal| u32::from(r.number()));
     let outside = tables.and_then(|t| t.outside(addr, options.code_info, options.inlining, room.min(64)));
     if let Some(rule) = outside {
         tally.outside(rule);
+        // these three are what the domain's own reading meets first in a header or a tree, and so does the reader
+        let number = match rule {
+            Rule::TooWide => 15,
+            Rule::Level65 => 13,
+            Rule::MoreThanRoom => 14,
+            _ => return,
+        };
+        if refusal != number {
+            tally.differs(|| format!("outside, {rule:?}: not refused with {number}: {}", told()));
+        }
         return;
     }
-    let refusal = here.as_ref().err().map_or(0, |r: &Refusal| u32::from(r.number()));
     tally.inside(refusal);
     tally.runs += u64::from(tables.is_some_and(|t| t.has_runs));
     let agree = facade::with_file(file, addr, options.code_info, options.inlining, |rust| match (&rust, &here) {

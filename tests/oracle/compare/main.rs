@@ -1,5 +1,6 @@
 // Compares the unchanged Rust with the static library, in one process: `compare short [BYTES]`, `compare files SEED LOOKUPS`
 // or `compare real FILE..`. compare.sh builds and runs it. Exit status 1 where an answer differs.
+#[allow(dead_code)]
 mod domain;
 mod files;
 mod lookups;

@@ -4,8 +4,9 @@ use crate::domain::{Rule, RULES};
 
 #[derive(Default)]
 pub struct Tally {
-    pub inside: [u64; 15],
-    pub outside: [u64; 7],
+    // a number of 15 stands under those that differ: the Rust has no such refusal
+    pub inside: [u64; 16],
+    pub outside: [u64; RULES.len()],
     pub differ: u64,
     // of those inside, in tables with equal entries in a row
     pub runs: u64,
@@ -33,7 +34,8 @@ impl Tally {
         let cases: u64 = self.inside.iter().sum();
         println!("{name}: {cases} inside the domain, {} differ, {seconds:.1} s", self.differ);
         println!("  in tables with equal entries in a row: {}", self.runs);
-        let numbers: Vec<_> = (0..15).filter(|n| self.inside[*n] > 0).map(|n| format!("{n}: {}", self.inside[n])).collect();
+        let numbers: Vec<_> =
+            (0..16).filter(|n| self.inside[*n] > 0).map(|n| format!("{n}: {}", self.inside[n])).collect();
         println!("  by number: {}", numbers.join(", "));
         for (count, (_, rule)) in self.outside.iter().zip(RULES) {
             if *count > 0 {

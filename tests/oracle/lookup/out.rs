@@ -127,12 +127,12 @@ pub struct Out {
     pub text: String,
     // what the cases after it are asked of
     pub now: Vec<u8>,
-    counts: [u64; 15],
+    counts: [u64; 16],
 }
 
 impl Out {
     pub fn new() -> Self {
-        Out { text: String::new(), now: vec![], counts: [0; 15] }
+        Out { text: String::new(), now: vec![], counts: [0; 16] }
     }
 
     pub fn remark(&mut self, text: &str) {

@@ -4,6 +4,7 @@ use Rattle.std.proofs.Common.{arith}
 use Rattle.gsym_leb128.proofs.Turn.{begin, read-as, after-one, after-two}
 use Rattle.gsym_leb128.proofs.Signs.{made, signed-one, signed-two}
 use Rattle.gsym_leb128.proofs.Places.{signed_front-is, signed_past, signed_short-is}
+use Rattle.gsym_leb128.proofs.Wide.{signed_wide-is}
 use Rattle.gsym_leb128.proofs.signed_at.Goals as goal
 use Rattle.gsym_leb128.proofs.signed_at.Goals.{else-i-s}
 use Rattle.gsym_leb128.proofs.signed_at.Goals.{then-i-s+else-first_byte-lt-ANOTHER+else-i-s-2}
@@ -15,7 +16,13 @@ pub returns-then-first_byte-lt-ANOTHER : goal.returns-then-first_byte-lt-ANOTHER
 returns-then-first_byte-lt-ANOTHER c =
     let q = signed-one _ _ c.if-i-s.true _ (omega arith) c.if-first_byte-lt-ANOTHER.true (omega arith) in
     let e = made _ _ _ _ c.cast_signed.type_inv c.cast_signed.ensures q in
-    record { exact = e; front = signed_front-is _ _ e; past = signed_past _ _ e; short = signed_short-is _ _ e }
+    record {
+      exact = e;
+      front = signed_front-is _ _ e;
+      past = signed_past _ _ e;
+      short = signed_short-is _ _ e;
+      wide = signed_wide-is _ _ (λ i. omega (arith, c.type_inv.s i)) e;
+    }
 
 pub returns-then-second_byte-lt-ANOTHER : goal.returns-then-second_byte-lt-ANOTHER
 returns-then-second_byte-lt-ANOTHER c =
@@ -24,7 +31,13 @@ returns-then-second_byte-lt-ANOTHER c =
     c.if-second_byte-lt-ANOTHER.true (omega arith) in
     let s = c.cast_signed-then-second_byte-lt-ANOTHER in
     let e = made _ _ _ _ s.type_inv s.ensures q in
-    record { exact = e; front = signed_front-is _ _ e; past = signed_past _ _ e; short = signed_short-is _ _ e }
+    record {
+      exact = e;
+      front = signed_front-is _ _ e;
+      past = signed_past _ _ e;
+      short = signed_short-is _ _ e;
+      wide = signed_wide-is _ _ (λ i. omega (arith, c.type_inv.s i)) e;
+    }
 
 pub rest_of_signed-requires : goal.rest_of_signed-requires
 rest_of_signed-requires c =
@@ -42,4 +55,10 @@ rest_of_signed-requires c =
 pub returns : goal.returns
 returns c =
     let e = c.rest_of_signed.ensures in
-    record { exact = e; front = signed_front-is _ _ e; past = signed_past _ _ e; short = signed_short-is _ _ e }
+    record {
+      exact = e;
+      front = signed_front-is _ _ e;
+      past = signed_past _ _ e;
+      short = signed_short-is _ _ e;
+      wide = signed_wide-is _ _ (λ i. omega (arith, c.type_inv.s i)) e;
+    }

@@ -15,6 +15,22 @@ pub returns-clause-blocks : goal.returns-clause-blocks
 returns-clause-blocks c =
     let e = c.lookup_by.ensures in (promised _ _ _ _ _ _ e.exact e.stays e.kept e.bare).blocks
 
+pub returns-clause-header : goal.returns-clause-header
+returns-clause-header c =
+    let e = c.lookup_by.ensures in (promised _ _ _ _ _ _ e.exact e.stays e.kept e.bare).header
+
+pub returns-clause-wide : goal.returns-clause-wide
+returns-clause-wide c =
+    let e = c.lookup_by.ensures in (promised _ _ _ _ _ _ e.exact e.stays e.kept e.bare).wide
+
+pub returns-clause-no_code_info : goal.returns-clause-no_code_info
+returns-clause-no_code_info c =
+    let e = c.lookup_by.ensures in (promised _ _ _ _ _ _ e.exact e.stays e.kept e.bare).no_code_info
+
+pub returns-clause-no_inlining : goal.returns-clause-no_inlining
+returns-clause-no_inlining c =
+    let e = c.lookup_by.ensures in (promised _ _ _ _ _ _ e.exact e.stays e.kept e.bare).no_inlining
+
 pub returns-clause-answered : goal.returns-clause-answered
 returns-clause-answered c =
     let e = c.lookup_by.ensures in (promised _ _ _ _ _ _ e.exact e.stays e.kept e.bare).answered

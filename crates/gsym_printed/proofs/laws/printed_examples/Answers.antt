@@ -147,5 +147,7 @@ returns-clause-values c = record {
   no_line_pretty = refl;
   last_part = refl;
   another_refusal = refl;
+  cut_header = refl;
+  cut_block = refl;
   last_refusal = refl;
 }

@@ -47,4 +47,12 @@ returns c = record {
   too_little_room = refl;
   past_the_end = refl;
   below_the_base = refl;
+  wide_max = refl;
+  wide_max_alone = refl;
+  cut_max = refl;
+  wide_count = refl;
+  wide_count_unread = refl;
+  cut_count = refl;
+  wide_operand = refl;
+  cut_operand = refl;
 }
