@@ -1,5 +1,5 @@
 # libgsym.a, libgsym.so.0, the tool gsym-addr2line and gsym.pc, for hosts without the Rattle toolchain's build; and
-# `gsym`, the program in Rattle, where the library is made too.
+# `gsym` and `report_main`, the programs in Rattle, where the library is made too.
 #   make                            builds them here; the library is proved first (rt on the PATH, of README's kit)
 #   make LIBGSYM=path/libgsym.a     the same over a library that is there, without the toolchain; so in the archive of
 #                                   `make dist`, which has libgsym.a beside this file and no sources of it
@@ -37,10 +37,10 @@ ifneq ($(wildcard crates.txt),)
 SOURCES := crates.txt $(shell find crates -name out -prune -o \( -name '*.rt' -o -name '*.antt' \) -print)
 endif
 
-# the program in Rattle, made where the library is made too
+# the programs in Rattle, made where the library is made too; report_main is not installed
 GSYM = $(if $(SOURCES),$(if $(filter libgsym.a,$(LIBGSYM)),gsym))
 
-all: $(LIBGSYM) libgsym.so.0 gsym-addr2line gsym.pc $(GSYM)
+all: $(LIBGSYM) libgsym.so.0 gsym-addr2line gsym.pc $(GSYM) $(if $(GSYM),report_main)
 
 ifneq ($(SOURCES),)
 libgsym.a: $(SOURCES)
@@ -59,12 +59,24 @@ gsym: $(SOURCES)
 	cd crates/gsym_tool && $(RT) run -- --version
 	cp crates/gsym_tool/out/gsym_tool $@
 
+report_main: $(SOURCES)
+	RT='$(RT)' sh tools/kit.sh
+	cd crates/report_main && $(RT) run </dev/null
+	cp crates/report_main/out/report_main $@
+
 # parts of the reader, for the comparison and the bench
 target/libreader_c.a: $(SOURCES)
 	RT='$(RT)' sh tools/kit.sh
 	cd crates/reader_c && $(RT) lib
 	mkdir -p target
 	cp crates/reader_c/out/libreader_c.a $@
+
+# the report, for the fuzzer and the bench
+target/libreport_c.a: $(SOURCES)
+	RT='$(RT)' sh tools/kit.sh
+	cd crates/report_c && $(RT) lib
+	mkdir -p target
+	cp crates/report_c/out/libreport_c.a $@
 endif
 
 # changes where the library that is linked does, so that what was linked with another is made anew
@@ -132,7 +144,7 @@ check:
 	sh test.sh
 
 clean:
-	rm -f $(if $(SOURCES),libgsym.a gsym) libgsym.so.0 gsym-addr2line gsym.pc
+	rm -f $(if $(SOURCES),libgsym.a gsym report_main) libgsym.so.0 gsym-addr2line gsym.pc
 
 distclean: clean
 	rm -rf target $(if $(SOURCES),crates/*/out)

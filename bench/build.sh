@@ -1,9 +1,10 @@
 #!/bin/sh
 # Builds the bench's programs: `build.sh OUT [TREE]` puts line_whole, line_one, inline_whole, inline_one, numbers_whole,
-# numbers_one, lookup, check and stack into OUT, and there the corpus' kernel file as vmlinux612.gsym. The libraries are
-# those of this tree, which are proved and built first, or of another checkout TREE, where they must have been built.
-# Needs rustc, the sources of blazesym 0.2.6 (BLAZESYM_SRC, see tests/oracle/README.md), the corpus with
-# vmlinux612.gsym.xz (GSYM_CORPUS), and xz; answers 3 and says so where they are not there.
+# numbers_one, lookup, report, check and stack into OUT, and there the corpus' kernel file as vmlinux612.gsym. The
+# libraries are those of this tree, which are proved and built first, or of another checkout TREE, where they must have
+# been built; of an older one without reports there is no program `report`. Needs rustc, the sources of blazesym 0.2.6
+# (BLAZESYM_SRC, see tests/oracle/README.md), the corpus with vmlinux612.gsym.xz (GSYM_CORPUS), and xz; answers 3 and
+# says so where they are not there.
 set -eu
 cd "$(dirname "$0")/.."
 out=${1:?the folder to build in}
@@ -12,7 +13,9 @@ corpus=${GSYM_CORPUS:-../shared/corpus}
 [ -f "$corpus/vmlinux612.gsym.xz" ] || { echo "bench: no vmlinux612.gsym.xz at $corpus (set GSYM_CORPUS)"; exit 3; }
 command -v rustc >/dev/null 2>&1 || { echo "bench: no rustc here"; exit 3; }
 mkdir -p "$out"
-[ "$tree" != . ] || make libgsym.a target/libreader_c.a >"$out/rt.log" 2>&1 || { tail -n 20 "$out/rt.log"; exit 1; }
+if [ "$tree" = . ]; then
+    make libgsym.a target/libreader_c.a target/libreport_c.a >"$out/rt.log" 2>&1 || { tail -n 20 "$out/rt.log"; exit 1; }
+fi
 cp "$tree/libgsym.a" "$tree/target/libreader_c.a" "$out/"
 xz -dc "$corpus/vmlinux612.gsym.xz" >"$out/vmlinux612.gsym"
 
@@ -31,6 +34,15 @@ done
 rustc --edition 2021 -C opt-level=3 --crate-type rlib --crate-name gsym -o "$out/libgsym.rlib" bindings/rust/src/lib.rs
 rustc --edition 2021 -C opt-level=3 -L "$out/whole" --extern "oracle=$out/whole/liboracle.rlib" -L "$out" \
     --extern "gsym=$out/libgsym.rlib" -l static=gsym -o "$out/lookup" bench/lookup.rs
+
+# reports, which an older TREE hasn't
+rm -f "$out/report"
+if [ -f "$tree/target/libreport_c.a" ]; then
+    cp "$tree/target/libreport_c.a" "$out/"
+    rustc --edition 2021 -C opt-level=3 -L "$out/whole" --extern "oracle=$out/whole/liboracle.rlib" -L "$out" \
+        -l static=report_c -o "$out/report" bench/report.rs
+fi
+
 ORACLE_FLAGS="--cfg walk" sh tests/oracle/build.sh "$out/walk"
 rustc --edition 2021 -C opt-level=3 -L "$out/walk" --extern "oracle=$out/walk/liboracle.rlib" -L "$out" \
     --extern "gsym=$out/libgsym.rlib" -l static=gsym -o "$out/check" bench/check.rs

@@ -46,6 +46,12 @@ for file in "$tmp/vmlinux612.gsym" "$corpus/cpp-gcc.gsym" "$corpus/rs-calc.gsym"
         row "$(basename "$file" .gsym), $kind" lookup "$file" "$kind"
     done
 done
+reports="vmlinux612, reports of 256 addresses"
+if [ -f "$tmp/report" ]; then
+    row "$reports" report "$tmp/vmlinux612.gsym"
+else # a TREE that is older than reports: the row isn't missing
+    echo "$reports" >>"$tmp/rows"
+fi
 row "vmlinux612, check, the Rust a plain walk" check "$tmp/vmlinux612.gsym"
 row "tables without a row" lookup tables "tables without a row"
 row "line tables of one row" lookup rows "line tables of one row"

@@ -6,7 +6,7 @@ mod shared;
 
 use gsym::{Frame, Options};
 use oracle::gsym::facade;
-use shared::measure;
+use shared::{measure, next};
 
 // What is asked for, and in which order.
 const KINDS: [(&str, Options, bool); 6] = [
@@ -17,11 +17,6 @@ const KINDS: [(&str, Options, bool); 6] = [
     ("inlining", Options::ALL, false),
     ("inlining, shuffled", Options::ALL, true),
 ];
-
-fn next(state: &mut u64) -> u64 {
-    *state = state.wrapping_mul(6_364_136_223_846_793_005).wrapping_add(1_442_695_040_888_963_407);
-    *state >> 33
-}
 
 // 100,000 rising addresses, spread over all symbols and inside each; the same in another order.
 fn addresses(file: &[u8], shuffled: bool) -> Vec<u64> {

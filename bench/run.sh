@@ -36,13 +36,20 @@ for file in "$@"; do
     "$tmp/lookup" "$file" time "$passes"
 done | tee "$tmp/times"
 
+if [ -f "$tmp/report" ]; then
+    echo
+    echo "reports of 256 addresses, vmlinux612: 400 of them, crash address and return addresses, with inlining"
+    "$tmp/report" "$tmp/vmlinux612.gsym" check
+    "$tmp/report" "$tmp/vmlinux612.gsym" time "$passes" | tee "$tmp/report_time"
+fi
+
 echo
 echo "the check of a whole file, vmlinux612, beside a plain walk of it by the Rust"
 "$tmp/check" "$tmp/vmlinux612.gsym" check
 "$tmp/check" "$tmp/vmlinux612.gsym" time "$passes"
 
 echo
-echo "instructions of one pass, of every tenth address where it looks up: the Rust, this, ratio"
+echo "instructions of one pass, of every tenth address or list where it looks up or reports: the Rust, this, ratio"
 status=0
 sh bench/count.sh "$tree" >"$tmp/counts" || status=$?
 [ $status = 0 ] || [ $status = 3 ] || exit $status
@@ -71,6 +78,10 @@ awk -F ' [|] |, ratio ' '
         }
         print ""
     }' "$tmp/counts" "$tmp/times"
+if [ -f "$tmp/report" ]; then # of the first file alone
+    count=$(sed -n 's/^vmlinux612, reports .* | //p' "$tmp/counts")
+    echo "| report of 256 addresses | ${count:--}; $(sed -n 's/.*, ratio //p' "$tmp/report_time") | | |"
+fi
 
 echo
 echo "nanoseconds a lookup by name: entries, Rust, this"

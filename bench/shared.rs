@@ -62,6 +62,12 @@ pub fn measure(passes: usize, rust: impl Fn() -> u64, rattle: impl Fn() -> u64) 
     println!("time, median of {passes} passes: Rust {:.2} ms, this {:.2} ms, ratio {:.3}", r * 1e3, q * 1e3, q / r);
 }
 
+// Numbers that look like chance and are the same each time.
+pub fn next(state: &mut u64) -> u64 {
+    *state = state.wrapping_mul(6_364_136_223_846_793_005).wrapping_add(1_442_695_040_888_963_407);
+    *state >> 33
+}
+
 // The address and the size of every symbol.
 pub fn symbols(file: &[u8]) -> Vec<(u64, u64)> {
     let u32_at = |at: usize| u32::from_le_bytes(file[at..at + 4].try_into().unwrap()) as usize;

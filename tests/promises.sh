@@ -62,11 +62,11 @@ done <"$tmp/functions"
 # rows: | `crate::[Type::]name` | `text` or `clause`: `text`; .. | ..; where a promise stands first, the two cells after it
 awk -F '\t' -v page="$page" '
     FNR == NR { clause[$2 "\t" $4 "\t" $5] = 1; known[$2] = 1; next }
-    /^\|.*`(gsym[a-z0-9_]*|reader_c)::/ {
+    /^\|.*`(gsym[a-z0-9_]*|reader_c|report_c)::/ {
         n = split($0, cells, " \\| ")
-        at = cells[1] ~ /^\| `(gsym[a-z0-9_]*|reader_c)::/ ? 1 : 2
+        at = cells[1] ~ /^\| `(gsym[a-z0-9_]*|reader_c|report_c)::/ ? 1 : 2
         who = cells[at]
-        if (who !~ /^(\| )?`(gsym[a-z0-9_]*|reader_c)::[A-Za-z0-9_:]+`$/) next
+        if (who !~ /^(\| )?`(gsym[a-z0-9_]*|reader_c|report_c)::[A-Za-z0-9_:]+`$/) next
         gsub(/[| `]/, "", who)
         m = split(who, parts, "::")
         who = parts[1] "::" parts[m]

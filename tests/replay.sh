@@ -1,6 +1,7 @@
 #!/bin/sh
 # The replay programs can fail: given a vector of each kind with another expected answer, each reports that one and no
-# other. Needs the programs of the crates reader_cases, lookup_cases and check_cases, which `rt ci` and `rt run` build.
+# other. Needs the programs of the crates reader_cases, lookup_cases, check_cases and report_cases, which `rt ci` and
+# `rt run` build.
 set -u
 cd "$(dirname "$0")/.." || exit 2
 tmp=$(mktemp -d) || exit 2
@@ -89,3 +90,17 @@ END {
     print "# right " right " wrong " wrong
 }' crates/check_cases/stdin >"$tmp/check_cases"
 replay check_cases "in the number, in the entry, and in the file"
+
+# the first cases, each right, with the last digit of the output raised, with an output and with none; and no case
+awk "$raised"'
+!/^#/ && right < 40 {
+    print
+    right++
+    if ($2 != ".") { print $1, raised($2); wrong++; print $1, "."; wrong++ }
+    print $1, ($2 == "." ? "" : $2) "0a"; wrong++
+}
+END {
+    print "X"; wrong++
+    print "# right " right " wrong " wrong
+}' crates/report_cases/stdin >"$tmp/report_cases"
+replay report_cases "in a byte of the output, in its length, and where it is none"

@@ -1,8 +1,8 @@
 #!/bin/sh
 # Builds a library with another clang: `with_clang.sh CLANG OUT [CRATE]` hands `rattle build` a toolchain folder whose
 # clang is the script CLANG, and writes the static library OUT of the crate, else of gsym_c; CLANG and OUT are whole
-# paths. The crates must have been built by `make libgsym.a` before. For what is done with the compiled module:
-# tests/fuzz/build.sh, tests/oracle/harmed.sh.
+# paths. The crates must have been built before, by `make libgsym.a` and, for reader_c, `make target/libreader_c.a`. For
+# what is done with the compiled module: tests/fuzz/build.sh, tests/oracle/harmed.sh.
 set -eu
 cd "$(dirname "$0")/.."
 script=${1:?the script that stands for clang}

@@ -13,7 +13,7 @@ cd "$(dirname "$0")/../.." || exit 2
 here=tests/fuzz
 clang=${CLANG:-clang}
 out=${1:-target/fuzz}
-library=libgsym.a
+library="libgsym.a target/libreport_c.a"
 [ "$(uname -m)" = x86_64 ] || { echo "fuzz: not built, the library is for x86-64"; exit 3; }
 command -v "$clang" >/dev/null 2>&1 || { echo "fuzz: not built, there is no '$clang' here"; exit 3; }
 command -v rt >/dev/null 2>&1 || { echo "fuzz: not built, the toolchain's command 'rt' is not on the PATH"; exit 2; }
@@ -24,6 +24,7 @@ printf 'int LLVMFuzzerTestOneInput(const char *d, unsigned long n) { return d ==
     { echo "fuzz: not built, '$clang' has no libFuzzer or no sanitizers"; exit 3; }
 rm -f "$out/probe" "$out/probe.c"
 
+# shellcheck disable=SC2086
 make $library >"$out/log" 2>&1 || { tail -n 20 "$out/log"; echo "fuzz: the library isn't proved"; exit 1; }
 
 # ---- the same library with counters
@@ -53,13 +54,16 @@ exec '$kit/toolchain/bin/clang' "\$@" -fsanitize-coverage=inline-8bit-counters,p
 EOF
     sh tests/with_clang.sh "$out/clang" "$out/libgsym_counted.a" &&
         sh tests/with_clang.sh "$out/clang" "$out/libgsym_text_counted.a" gsym_text_c &&
-        sh tests/with_clang.sh "$out/clang" "$out/libgsym_check_counted.a" gsym_check_c
+        sh tests/with_clang.sh "$out/clang" "$out/libgsym_check_counted.a" gsym_check_c &&
+        sh tests/with_clang.sh "$out/clang" "$out/libreport_counted.a" report_c
 }
 
 # built anew only where the library, this script or the kit is another
-stamp=$(cat "$library" "$here/build.sh" tests/with_clang.sh "$kit/KIT-ID" 2>/dev/null | sha256sum)
-if [ "$stamp" != "$(cat "$out/stamp" 2>/dev/null)" ] || [ ! -f "$out/libgsym_check_counted.a" ]; then
-    rm -f "$out/libgsym_counted.a" "$out/libgsym_text_counted.a" "$out/libgsym_check_counted.a" "$out/stamp"
+# shellcheck disable=SC2086
+stamp=$(cat $library "$here/build.sh" tests/with_clang.sh "$kit/KIT-ID" 2>/dev/null | sha256sum)
+if [ "$stamp" != "$(cat "$out/stamp" 2>/dev/null)" ] || [ ! -f "$out/libreport_counted.a" ]; then
+    rm -f "$out/libgsym_counted.a" "$out/libgsym_text_counted.a" "$out/libgsym_check_counted.a" \
+        "$out/libreport_counted.a" "$out/stamp"
     with_counters >"$out/log" 2>&1 && echo "$stamp" >"$out/stamp"
     rm -f "$out/clang" "$out/module.ll" "$out/module.plain.ll"
 fi
@@ -74,17 +78,19 @@ target() {
 }
 how="the library has counters and AddressSanitizer; the C side has sanitizers and no counters"
 over_counters() {
-    [ -f "$out/libgsym_check_counted.a" ] || return 1
+    [ -f "$out/libreport_counted.a" ] || return 1
     # shellcheck disable=SC2086
     "$clang" $flags $checked -c -o "$out/target.o" $here/target.c >"$out/log" 2>&1 &&
         target "$out/fuzz" "$out/target.o" "$out/libgsym_counted.a" "$out/libgsym_text_counted.a" \
-            "$out/libgsym_check_counted.a"
+            "$out/libgsym_check_counted.a" "$out/libreport_counted.a"
 }
 if ! over_counters; then
     tail -n 5 "$out/log"
     how="the library has no counters: libFuzzer is guided by the C side alone"
+    # shellcheck disable=SC2086
     target "$out/fuzz" $here/target.c $library || { cat "$out/log"; echo "fuzz: target.c doesn't compile"; exit 1; }
 fi
+# shellcheck disable=SC2086
 target "$out/fuzz-plain" $here/target.c $library || { cat "$out/log"; echo "fuzz: target.c doesn't compile"; exit 1; }
 # shellcheck disable=SC2086
 "$clang" $flags -Wno-unused-function -o "$out/seeds" $here/seeds.c >"$out/log" 2>&1 ||

@@ -5,6 +5,7 @@
 #ifndef HARMED_H
 #define HARMED_H
 
+#include <stdio.h>
 #include <stdlib.h>
 #include <string.h>
 
@@ -150,11 +151,90 @@ static gsym_finding harmed_check(const uint8_t *file, size_t len)
     return f;
 }
 
+/* as report.h has it */
+size_t gsym_report(const uint8_t *file, size_t len, const uint64_t *addresses, size_t count, uint8_t *room,
+                   size_t room_len);
+
+enum { MOST_WRONG = 1 << 20 };
+
+/* a report, and a line behind it, with a fault of 51 to 53, 55 or 56; how long it is then */
+static size_t wrong_line(uint8_t *report, size_t len, size_t number, const char *text, size_t text_len)
+{
+    if (text_len > MOST_WRONG - 32 - len)
+        return len;
+    number = harm() == 55 ? number + 1 : harm() == 56 ? number % 10 : number;
+    len += (size_t)sprintf((char *)report + len, "%zu ", number);
+    for (size_t i = 0; i < text_len; i++) {
+        uint8_t byte = (uint8_t)text[i];
+        int is_kept = (byte >= 32 && byte != 127) || (harm() == 51 && byte == 127) || (harm() == 52 && byte == 10);
+        report[len++] = is_kept && (harm() != 53 || byte < 128 || byte > 159) ? byte : '?';
+    }
+    report[len++] = 10;
+    return len;
+}
+
+/* a report that is composed of lookups, with a fault of 46 to 58 */
+static size_t wrong_report(const uint8_t *file, size_t len, const uint64_t *addresses, size_t count, uint8_t *report)
+{
+    static gsym_frame frames[GSYM_MAX_FRAMES];
+    size_t n = 0;
+    for (size_t i = 0; i < count; i++) {
+        uint64_t less = harm() == 46 ? 1 : harm() == 47 ? 0 : i > 0;
+        gsym_answer a = gsym_lookup(file, len, addresses[i] - less, 3, frames, GSYM_MAX_FRAMES);
+        if (i > 0 && addresses[i] == 0 && harm() != 48)
+            memset(&a, 0, sizeof a), a.number = 1;
+        for (size_t k = 0; a.number == 0 && k <= a.count; k++) {
+            size_t last = (size_t)a.count - 1, frame = harm() == 49 ? k : harm() == 50 ? last + 1 - k : last - k;
+            int is_symbol = k == (harm() == 50 ? 0 : a.count);
+            gsym_part name = gsym_text_at(file, len, is_symbol ? a.name : frames[frame].name);
+            n = wrong_line(report, n, i, name.at, name.len);
+        }
+        char words[16];
+        size_t digits = (size_t)sprintf(words, "?%u", harm() == 57 ? 1 : a.number);
+        if (a.number != 0 && harm() != 58)
+            n = wrong_line(report, n, i, words, digits);
+    }
+    return harm() == 54 && n > 0 ? n - 1 : n;
+}
+
+static size_t harmed_report(const uint8_t *file, size_t len, const uint64_t *addresses, size_t count, uint8_t *room,
+                            size_t room_len)
+{
+    static uint8_t wrong[MOST_WRONG];
+    static volatile uint8_t seen;
+    int is_wrong = harm() >= 46 && harm() <= 58;
+    size_t n = is_wrong ? wrong_report(file, len, addresses, count, wrong)
+                        : gsym_report(file, len, addresses, count, room, room_len);
+    if (is_wrong) {
+        memcpy(room, wrong, n < room_len ? n : room_len);
+        return n <= room_len ? n : SIZE_MAX;
+    }
+    switch (harm()) {
+    case 59: seen = file[len]; break;
+    case 60: *(volatile uint8_t *)(uintptr_t)file = 0; break;
+    case 61: seen = (uint8_t)addresses[count]; break;
+    case 62: if (count > 0) ++*(volatile uint64_t *)(uintptr_t)addresses; break;
+    case 63: room[room_len] = 0; break;
+    case 64: room[-1] = 0; break;
+    case 65: if (n < room_len) room[n]++; break;
+    case 66: if (n == SIZE_MAX && room_len > 0) room[room_len - 1]++; break;
+    case 67: if (n == SIZE_MAX) memset(room, 0, room_len); break;
+    case 68: if (n == SIZE_MAX) n = room_len + 1; break;
+    case 69: if (n == room_len) n = SIZE_MAX; break;
+    case 70: if (n < room_len) n++; break;
+    case 71: if (n <= room_len && n > 0) room[n - 1] = 32; break;
+    default: break;
+    }
+    (void)seen;
+    return n;
+}
+
 #undef gsym_lookup
 #undef gsym_block_frames
 #undef gsym_check
 #define gsym_lookup harmed_lookup
 #define gsym_block_frames harmed_frames
 #define gsym_check harmed_check
+#define gsym_report harmed_report
 
 #endif

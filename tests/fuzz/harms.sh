@@ -6,11 +6,13 @@ set -u
 cd "$(dirname "$0")/../.." || exit 2
 clang=${CLANG:-clang}
 out=target/fuzz
-library=libgsym.a
+library="libgsym.a target/libreport_c.a"
 command -v "$clang" >/dev/null 2>&1 || { echo "harms: not run, there is no '$clang' here"; exit 3; }
-[ -d $out/first ] && [ -f $library ] || { echo "harms: not run, tests/fuzz/run.sh has not run here"; exit 3; }
+[ -d $out/first ] && [ -f libgsym.a ] && [ -f target/libreport_c.a ] ||
+    { echo "harms: not run, tests/fuzz/run.sh has not run here"; exit 3; }
 tmp=$(mktemp -d) || exit 2
 trap 'rm -rf "$tmp"' EXIT
+# shellcheck disable=SC2086
 "$clang" -std=c11 -D_GNU_SOURCE -g -O1 -Iinclude -Itests/fuzz -include harmed.h -fsanitize=fuzzer,address,undefined \
     -fno-sanitize-recover=all -o "$tmp/fuzz" tests/fuzz/target.c $library >"$tmp/log" 2>&1 ||
     { cat "$tmp/log"; echo "harms: target.c doesn't compile"; exit 1; }

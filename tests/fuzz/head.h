@@ -87,4 +87,22 @@ static uint64_t address_of(const uint8_t *head, bytes f)
     }
 }
 
+/* The addresses of the report that a head asks for, and how many: up to seven, of which any may be the crash address,
+ * and zeros behind it, so that the lines of the others have numbers of two digits and of three. One lower than a return
+ * address is looked up: the address that the head asks for, and what the chosen symbol begins and ends with. */
+static size_t addresses_of(const uint8_t *head, bytes f, uint64_t *addresses)
+{
+    static const size_t zeros[] = {5, 0, 95, MOST_ADDRESSES - 7};
+    shape s = shape_of(f);
+    size_t i = s.entries == 0 ? 0 : number_at(head + 2, 2) % s.entries, wanted = 7 - head[13] % 8, count = 0;
+    uint64_t addr = address_of(head, f), start = s.base + entry_at(f, s, i), size = read_at(f, data_at(f, s, i), 4);
+    uint64_t some[] = {addr, addr + 1, start, start + size, start + 1, UINT64_MAX, 0};
+    for (size_t k = 0; k < wanted; k++) {
+        addresses[count++] = some[(k + head[14]) % 7];
+        for (size_t z = 0; k == 0 && z < zeros[head[15] % 4]; z++)
+            addresses[count++] = 0;
+    }
+    return count;
+}
+
 #endif

@@ -84,10 +84,11 @@ static void change_name(maker *m, bytes f, shape s, size_t entry)
 static void change_head(uint8_t *data)
 {
     static const uint8_t rooms[] = {0, 1, 2, 3, 63, 64, 65, 80};
-    switch (roll(4)) {
+    switch (roll(5)) {
     case 0: data[0] = (uint8_t)roll(8), data[2] = (uint8_t)roll(256); break;
     case 1: data[1] = (uint8_t)(3 | roll(16)), data[4] = (uint8_t)roll(256); break;
     case 2: data[6] = rooms[roll(sizeof rooms)]; break;
+    case 3: data[13] = (uint8_t)roll(8), data[14] = (uint8_t)roll(7), data[15] = (uint8_t)roll(4); break;
     default: data[7] ^= 1, data[5] = (uint8_t)roll(2);
     }
 }

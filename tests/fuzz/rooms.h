@@ -2,8 +2,8 @@
  * rooms.h - memory between pages that can't be touched, and what a failed check says.
  *
  * The file lies in a mapping that can only be read, so that it ends (or begins) at a page without access; the lent list
- * lies likewise. Whatever the library reads or writes outside its arguments, or writes to the file, ends the program by
- * a signal.
+ * and the addresses of a report lie likewise. Whatever the library reads or writes outside its arguments, or writes to
+ * the file, ends the program by a signal.
  */
 #ifndef ROOMS_H
 #define ROOMS_H
@@ -19,7 +19,7 @@
 
 #include "gsym.h"
 
-enum { PAGE = 4096, FILE_ROOM = 32 * PAGE, LIST_ROOM = 2 * PAGE, MOST_FRAMES = 80 };
+enum { PAGE = 4096, FILE_ROOM = 32 * PAGE, LIST_ROOM = 2 * PAGE, MOST_FRAMES = 80, MOST_ADDRESSES = 256 };
 enum { ALL_OPTIONS = GSYM_CODE_INFO | GSYM_INLINING };
 
 typedef struct bytes {
@@ -55,7 +55,7 @@ static void not_so(const char *words, const char *what, const char *where, int l
 
 /* ---- memory between pages without access */
 
-static uint8_t *file_write, *file_read, *list_room;
+static uint8_t *file_write, *file_read, *list_room, *address_room;
 static uint8_t list_before[LIST_ROOM];
 
 static void no_memory(void)
@@ -84,6 +84,7 @@ static void make_rooms(void)
         no_memory();
     file_read = between_guards(FILE_ROOM, file, PROT_READ);
     list_room = between_guards(LIST_ROOM, -1, PROT_READ | PROT_WRITE);
+    address_room = between_guards(PAGE, -1, PROT_READ | PROT_WRITE);
     close(file);
     for (size_t i = 0; i < LIST_ROOM; i++)
         list_room[i] = list_before[i] = (uint8_t)(i * 7 + 13);
@@ -100,6 +101,15 @@ static bytes lend_file(const uint8_t *at, size_t len, int at_end)
 
 /* a list of so many bytes, up to the page behind it or from the page before it on */
 static void *lend_list(size_t len, int at_end) { return at_end ? list_room + LIST_ROOM - len : list_room; }
+
+/* at most MOST_ADDRESSES, up to the page behind them or from the page before them on */
+static const uint64_t *lend_addresses(const uint64_t *at, size_t count, int at_end)
+{
+    size_t len = count * sizeof *at;
+    uint8_t *to = address_room + (at_end ? PAGE - len : 0);
+    memcpy(to, at, len);
+    return (const uint64_t *)to;
+}
 
 /* all of the list's memory is as before but for `len` bytes from `at` on, which are put back */
 static int rest_kept(void *at, size_t len)

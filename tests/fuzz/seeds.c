@@ -2,8 +2,9 @@
  * seeds.c - the first inputs of the fuzzing target: `seeds FOLDER FILE...`. Of each symbol file: lookups inside symbols
  * spread over its table, at their starts and past their ends, with room for all and for few frames, the inline items of
  * these symbols as blocks of their own, and its first bytes alone. A large file gives fewer inputs than a small one,
- * and a small one some in which an entry of its address table is the same as the one before it, and some in which an
- * entry's line table or inline tree has a number that is too wide, or cut before its tenth byte.
+ * and a small one some in which an entry of its address table is the same as the one before it, some in which an
+ * entry's line table or inline tree has a number that is too wide, or cut before its tenth byte, and one whose strings
+ * have control bytes.
  */
 #include "head.h"
 
@@ -104,6 +105,25 @@ static void wide_seeds(bytes f, shape s, size_t entry)
     }
 }
 
+/* control bytes and a C1 control in every string of six bytes or more, behind its first one */
+static void control_seed(bytes f)
+{
+    static const char put[] = "\x7f\n\xc2\x9b\x1f";
+    static uint8_t kept[FILE_ROOM];
+    uint64_t table = read_at(f, 20, 4), end = table + read_at(f, 24, 4);
+    memcpy(kept, f.at, f.len);
+    for (uint64_t at = table; at < end && end <= f.len;) {
+        const uint8_t *text = input + HEAD + at, *zero = memchr(text, 0, (size_t)(end - at));
+        size_t len = zero == 0 ? (size_t)(end - at) : (size_t)(zero - text);
+        if (len >= sizeof put)
+            memcpy(input + HEAD + at + 1, put, sizeof put - 1);
+        at += len + 1;
+    }
+    set_head(5, 3, 0, 1, 80, 1, 0);
+    write_seed(f.len);
+    memcpy(input + HEAD, kept, f.len);
+}
+
 int main(int n, char **words)
 {
     if (n < 3) {
@@ -132,8 +152,10 @@ int main(int n, char **words)
             }
             if (len < 4000 && i > 0)
                 twin_seeds(f, s, i);
-            if (len < 4000 && i == 0)
+            if (len < 4000 && i == 0) {
                 wide_seeds(f, s, i);
+                control_seed(f);
+            }
             block_seeds(f, s, i);
         }
         set_head(0, 0, 0, 0, 0, 1, s.base);

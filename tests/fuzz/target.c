@@ -1,8 +1,8 @@
 /*
  * target.c - the library under libFuzzer. An input is a head of 16 bytes, which chooses what is asked, and then the
  * bytes of a file. Each input is checked by gsym_check and asked by gsym_lookup, and its bytes, or those of an inline
- * item in it, as a block by gsym_block_frames, and a word is answered as text by gsym_answer_text; checks.h judges
- * every answer. mutate.h changes inputs by what is known of the format.
+ * item in it, as a block by gsym_block_frames; gsym_report has some addresses of it, and a word is answered as text by
+ * gsym_answer_text; checks.h and report.h judge every answer. mutate.h changes inputs by what is known of the format.
  *
  * The head:
  *   0       how the address is chosen: raw, near the base, near an entry, inside a symbol, at a symbol's end, border
@@ -12,11 +12,13 @@
  *   6       room, modulo 81
  *   7       bit 0: file and list end at a page without access, else they begin at one
  *   8 to 15 a raw address; of the text its view (8, 9), its base (10, where bit 0 of 11 is set), and whether the word
- *           is the address in digits or the file's last bytes (bit 1 of 11), and how many of these (12)
+ *           is the address in digits or the file's last bytes (bit 1 of 11), and how many of these (12); of the report
+ *           how many addresses less than seven (13), which comes first (14), and how many zeros behind it (15)
  */
 #include "checks.h"
 #include "head.h"
 #include "mutate.h"
+#include "report.h"
 
 /* the bytes asked as a block: the file's, what follows its header, or an inline item's of the chosen entry */
 static bytes block_of(const uint8_t *head, bytes file)
@@ -45,7 +47,7 @@ static bytes word_of(const uint8_t *head, bytes file, uint64_t addr, uint64_t ba
     return (bytes){file.at + file.len - len, len};
 }
 
-static uint64_t calls, looks[16], lists[16], found[25], unchecked;
+static uint64_t calls, looks[16], lists[16], found[25], unchecked, reports, longer;
 
 /* A check reads a list once for each entry that names it. A file whose entries name more bytes than this, some fifteen
  * times what the longest input has, is not checked: one of 70,000 bytes can be made to take 0.3 seconds, and more under
@@ -65,7 +67,9 @@ static void say_numbers(void)
     for (int i = 1; i < 25; i++)
         if (i < 7 ? i > 1 : i > 8 && (i < 14 || i == 15 || i > 19))
             fprintf(stderr, ", %d: %llu", i, (unsigned long long)found[i]);
-    fprintf(stderr, ", unchecked: %llu\n", (unsigned long long)unchecked);
+    fprintf(stderr, ", unchecked: %llu", (unsigned long long)unchecked);
+    fprintf(stderr, "; of reports that fit: %llu, longer: %llu\n", (unsigned long long)(reports - longer),
+            (unsigned long long)longer);
 }
 
 int LLVMFuzzerInitialize(int *n, char ***words);
@@ -96,6 +100,10 @@ int LLVMFuzzerTestOneInput(const uint8_t *data, size_t size)
     else
         unchecked++;
     looked l = look_all_ways(file, addr, data[1] & ALL_OPTIONS, room, at_end, &calls);
+    static uint64_t addresses[MOST_ADDRESSES];
+    size_t count = addresses_of(data, file, addresses);
+    longer += report_all_ways(file, addresses, count, number_at(data + 4, 2), at_end, &calls) > LIST_ROOM;
+    reports++;
 
     bytes part = block_of(data, input);
     bytes block = lend_file(part.at, part.len, at_end);

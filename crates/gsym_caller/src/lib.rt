@@ -19,10 +19,13 @@ ghost use Rattle.gsym_verify.specs.Faults.{IsFirstFault};
 ghost use Rattle.gsym.specs.CallOrder.{calls_in_order};
 ghost use Rattle.gsym.specs.Names.{IsNameIn};
 ghost use Rattle.gsym_resolver.specs.WithPlaces.{bytes_of};
+ghost use Rattle.gsym_report.specs.Report.{report_of};
 ghost use Rattle.gsym_caller.specs.Answers.{highest_of, highest_call_line_of, innermost_name, status_of};
 
 use gsym::{Address, Answer, Frame, Gsym, InlineFrame, LineNumber, Options, Refusal, StrOffset};
 use gsym_verify::Finding;
+use std::alloc::Global;
+use std::io;
 
 /// The highest line that execution had reached in the calls inlined at an address, with `gsym::lookup` and a list that
 /// is lent.
@@ -185,4 +188,13 @@ pub fn checked_symbol(file: &[u8], addr: Address) -> Result<Option<Answer>, Find
         Err(Refusal::UnknownAddress) => Ok(None),
         Err(_) => unreachable!(),
     }
+}
+
+/// The report of a crash as text, for a caller that sends it on.
+pub fn report_text(alloc: Global, file: &[u8], addresses: &[Address]) -> io::Result<Vec<u8>>
+    ensures { IfOk result (λ text. text.items ≡ report_of file.now addresses.now) }
+{
+    let mut text = Vec::new(alloc);
+    gsym_report::write_report(file, addresses, &mut text)?;
+    Ok(text)
 }

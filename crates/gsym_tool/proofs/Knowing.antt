@@ -12,11 +12,11 @@ use Rattle.gsym_printed.specs.Words.{words_onto, words}
 use Rattle.gsym_tool.specs.Known.{is_known_word, all_known}
 use Rattle.gsym_tool.proofs.Lines.{words-through}
 
-and-all : (a : Bool) → (a && true) ≡ a
+pub and-all : (a : Bool) → (a && true) ≡ a
 and-all true = refl
 and-all false = refl
 
-and-and : (a b c : Bool) → (a && (b && c)) ≡ ((a && b) && c)
+pub and-and : (a b c : Bool) → (a && (b && c)) ≡ ((a && b) && c)
 and-and true b c = refl
 and-and false b c = refl
 

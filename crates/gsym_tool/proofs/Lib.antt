@@ -1,3 +1,4 @@
+pub mod Addressing
 pub mod Knowing
 pub mod Lines
 pub mod Whole

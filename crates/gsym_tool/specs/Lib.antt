@@ -1,3 +1,4 @@
 pub mod Files
 pub mod Known
+pub mod Reports
 pub mod Troubles

@@ -15,8 +15,8 @@ use gsym_printed::{Outcome, View};
 use std::alloc::Global;
 use std::io::{self, BufRead, BufReader, BufWriter, Write};
 
-// An address is not known, or a word is none.
-const UNKNOWN: u8 = 1;
+/// The exit status where an address is not known, or, of `gsym addr2line`, a word is none.
+pub const UNKNOWN: u8 = 1;
 
 // The text of an answer, where all of it fits; else how many bytes it has.
 #[tactic(auto, using(crate::proofs::Whole::whole))]
@@ -34,8 +34,8 @@ fn fitting(room: Vec<u8>, view: View, file: &[u8], word: &[u8]) -> Result<(Vec<u
     Ok((room, printed.outcome))
 }
 
-// The text of an answer, all of it.
-fn whole_answer(
+/// The text of an answer, all of it.
+pub fn whole_answer(
     alloc: Global,
     view: View,
     file: &[u8],
@@ -55,8 +55,8 @@ fn whole_answer(
     }
 }
 
-// Writes to standard output.
-fn put<W: Write>(out: &mut W, text: &[u8]) -> Result<(), Trouble>
+/// Writes to standard output.
+pub fn put<W: Write>(out: &mut W, text: &[u8]) -> Result<(), Trouble>
     ensures text { OnOk result (Appends (W.contents out.old) (W.contents out.new) text.now) }
     ensures output { IfErr result IsOfOutput }
 {
@@ -95,8 +95,8 @@ fn answer_word<W: Write, E: Write>(
     Ok(matches!(outcome, Outcome::Known))
 }
 
-// Whether all so far and one more are known.
-fn both(all: bool, known: bool) -> bool
+/// Whether all so far and one more are known.
+pub fn both(all: bool, known: bool) -> bool
     ensures { result ≡ (all && known) }
 {
     all && known
@@ -202,7 +202,7 @@ fn answer_input<R: BufRead, W: Write, E: Write>(
     Err(Trouble::Memory)
 }
 
-fn flush<W: Write>(out: &mut W) -> Result<(), Trouble>
+pub fn flush<W: Write>(out: &mut W) -> Result<(), Trouble>
     ensures kept { Keeps (W.contents out.old) (W.contents out.new) }
     ensures output { IfErr result IsOfOutput }
 {

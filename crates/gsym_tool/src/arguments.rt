@@ -27,11 +27,11 @@ fn argument(rt: &HostRuntime, place: usize) -> Result<Option<Vec<u8>>, Trouble> 
     Err(Trouble::Memory)
 }
 
-/// One word more.
-pub fn push(words: &mut Vec<Vec<u8>>, word: Vec<u8>) -> Result<(), AllocError>
-    ensures { OnOk result (words.new.items ≡ words.old.items ++ word ∷ []) }
+/// One item more.
+pub fn push<T: Drop>(list: &mut Vec<T>, item: T) -> Result<(), AllocError>
+    ensures { OnOk result (list.new.items ≡ list.old.items ++ item ∷ []) }
 {
-    words.push(word)?;
+    list.push(item)?;
     Ok(())
 }
 

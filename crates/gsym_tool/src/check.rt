@@ -3,7 +3,7 @@ ghost use Rattle.std.specs.Prelude.{◌≡◌, ◌↔◌, IsTrue, IsOk, IfOk, If
 ghost use Rattle.gsym_verify.specs.Check.{check_of};
 ghost use Rattle.gsym_tool.specs.Troubles.{IsOfOutput};
 
-use super::files::bytes_to_check;
+use super::files::{MOST, any_bytes};
 use super::options::Check;
 use super::trouble::{self, Trouble, push_json_text, push_reason, push_shown};
 use gsym_parser::GsymContext;
@@ -235,7 +235,7 @@ fn check_file(turn: Turn<'_>, json: bool, name: &[u8]) -> Result<u8, Trouble>
     ensures { IfErr result IsOfOutput }
 {
     let alloc = turn.rt.alloc();
-    match bytes_to_check(turn.rt, name) {
+    match any_bytes(turn.rt, name, MOST) {
         Ok(bytes) => {
             let found = check_bytes(turn, &bytes);
             let passed = print(alloc, &mut io::writer(turn.rt), json, name, found)?;

@@ -12,8 +12,8 @@ use std::alloc::{AllocError, Global};
 use std::fs::File;
 use std::io::{self, Read};
 
-// The most that is read of a symbol file.
-const MOST: usize = 1 << 30;
+/// The most that is read of a symbol file, but for a report.
+pub const MOST: usize = 1 << 30;
 
 // How many bytes magic and version have.
 const START: u64 = 6;
@@ -75,9 +75,9 @@ fn judge_start(alloc: Global, name: &[u8], file: &[u8]) -> Result<(), Trouble>
     }
 }
 
-// All bytes, once they are there.
+/// Judges all bytes, once they are there.
 #[tactic(auto, using(crate::proofs::Opening::opens))]
-fn judge(alloc: Global, name: &[u8], file: &[u8]) -> Result<(), Trouble>
+pub fn judge(alloc: Global, name: &[u8], file: &[u8]) -> Result<(), Trouble>
     ensures opens { OnOk result (IsOk (opened_of file.now)) }
     ensures named { IfErr result (IsOfFile name.now) }
 {
@@ -134,12 +134,18 @@ fn opened(rt: &HostRuntime, name: &[u8]) -> Result<File, Trouble>
     }
 }
 
-// All that a file has behind the bytes that were read of it.
-fn read_rest(alloc: Global, name: &[u8], file: &File, bytes: &mut Vec<u8>) -> Result<(), Trouble>
+// All that a file has behind the bytes that were read of it, up to so many in all.
+fn read_rest(
+    alloc: Global,
+    name: &[u8],
+    file: &File,
+    most: usize,
+    bytes: &mut Vec<u8>,
+) -> Result<(), Trouble>
     ensures { IfErr result (IsOfFile name.now) }
 {
-    read_named(alloc, name, file, MOST as u64, bytes)?;
-    if bytes.len() > MOST {
+    read_named(alloc, name, file, most as u64, bytes)?;
+    if bytes.len() > most {
         return Err(Trouble::File(copy(alloc, name)?, "more than 1 GiB"));
     }
     Ok(())
@@ -155,7 +161,7 @@ pub fn symbols(rt: &HostRuntime, name: &[u8]) -> Result<Vec<u8>, Trouble>
     let mut bytes = Vec::new(alloc);
     read_named(alloc, name, &file, START, &mut bytes)?;
     judge_start(alloc, name, &bytes)?;
-    read_rest(alloc, name, &file, &mut bytes)?;
+    read_rest(alloc, name, &file, MOST, &mut bytes)?;
     judge(alloc, name, &bytes)?;
     Ok(bytes)
 }
@@ -170,9 +176,9 @@ fn has_wrong_start(file: &[u8]) -> bool
     )
 }
 
-/// The bytes of a file that is to be checked: all, or the first six where these are wrong, so that an endless one ends
-/// at once.
-pub fn bytes_to_check(rt: &HostRuntime, name: &[u8]) -> Result<Vec<u8>, Trouble>
+/// The bytes of a file that may be any, so many at most: all, or the first six where these are wrong, so that an
+/// endless one ends at once. What it is refused for is then what the whole file is.
+pub fn any_bytes(rt: &HostRuntime, name: &[u8], most: usize) -> Result<Vec<u8>, Trouble>
     ensures { IfErr result (IsOfFile name.now) }
 {
     let alloc = rt.alloc();
@@ -180,7 +186,7 @@ pub fn bytes_to_check(rt: &HostRuntime, name: &[u8]) -> Result<Vec<u8>, Trouble>
     let mut bytes = Vec::new(alloc);
     read_named(alloc, name, &file, START, &mut bytes)?;
     if !has_wrong_start(&bytes) {
-        read_rest(alloc, name, &file, &mut bytes)?;
+        read_rest(alloc, name, &file, most, &mut bytes)?;
     }
     Ok(bytes)
 }

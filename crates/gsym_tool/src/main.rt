@@ -1,11 +1,12 @@
-//! The command-line tool `gsym`: `gsym addr2line -e FILE ..` answers addresses, `gsym check FILE ..` checks whole
-//! files, `gsym info FILE` says what a file has. Every answer to a word is a text of `gsym_printed`. Files are read
-//! whole.
+//! The command-line tool `gsym`: `gsym addr2line -e FILE ..` answers addresses, `gsym report -e FILE ..` reports a
+//! crash, `gsym check FILE ..` checks whole files, `gsym info FILE` says what a file has. Every answer to a word is a
+//! text of `gsym_printed`, every report one of `gsym_report`. Files are read whole.
 //!
 //!     arguments  the words of the command line, as bytes
 //!     options    what they ask for
 //!     files      symbol files, read and judged
 //!     addr2line  answers to words and to standard input
+//!     report     reports of crashes
 //!     check      checks of whole files
 //!     info       header and tables
 //!     trouble    why no answer could be given
@@ -17,6 +18,7 @@ mod check;
 mod files;
 mod info;
 mod options;
+mod report;
 mod trouble;
 
 use options::{Asked, USAGE};
@@ -42,6 +44,7 @@ fn run(rt: &HostRuntime) -> Result<u8, Trouble> {
         Asked::Version => print(rt, VERSION),
         Asked::Info(asked) => info::tell(rt, &asked),
         Asked::Check(asked) => check::check_all(rt, &asked),
+        Asked::Report(asked) => report::tell(rt, &asked),
         Asked::Answers(asked) => addr2line::answer_all(rt, &asked),
     }
 }

@@ -11,6 +11,8 @@ use std::alloc::Global;
 pub const USAGE: &str =
     "usage: gsym addr2line -e FILE [-a] [-f] [-i] [-p] [-s] [-C] [--base ADDRESS] [--return-addresses]
                       [--refusals] [--json] [@FILE] [ADDRESS...]
+       gsym report -e FILE [--json] [@FILE] [ADDRESS...]
+       gsym report [-e FILE] --binary [--json]
        gsym check [--json] FILE...
        gsym info [--json] FILE
   -e, --exe FILE          the GSYM symbol file
@@ -24,10 +26,12 @@ pub const USAGE: &str =
       --return-addresses  look up the address before each one, where the call stands
       --refusals          print a refusal's number and name instead of ??
       --json              one JSON object a line; of an address with all frames
+      --binary            read addresses of 8 bytes from standard input; without -e the file before them, with its size
   @FILE                   read arguments from FILE
   -h, -H, --help          print this
   -v, -V, --version       print the version
-Addresses are hexadecimal; without any they are read from standard input.
+Addresses are hexadecimal; without any they are read from standard input. Of a report the first is the crash address,
+the others are return addresses.
 ";
 
 /// What `gsym addr2line` is asked for.
@@ -52,13 +56,34 @@ pub struct Check {
     pub files: Vec<Vec<u8>>,
 }
 
+/// What `gsym report` is asked for.
+#[derive(Drop)]
+pub struct Report {
+    pub json: bool,
+    /// Whether standard input has addresses as bytes, and not as words.
+    pub binary: bool,
+    /// `None` where it comes with them.
+    pub file: Option<Vec<u8>>,
+    pub words: Vec<Vec<u8>>,
+}
+
 #[derive(Drop)]
 pub enum Asked {
     Help,
     Version,
     Answers(Answers),
+    Report(Report),
     Info(Info),
     Check(Check),
+}
+
+// A command that takes no more than some of the options.
+#[derive(Clone, Copy)]
+enum Command {
+    Answers,
+    Report,
+    Check,
+    Info,
 }
 
 // What one option sets.
@@ -74,6 +99,7 @@ enum Setting {
     ReturnAddresses,
     Refusals,
     Json,
+    Binary,
     Demangle,
     Help,
     Version,
@@ -92,6 +118,7 @@ fn long_option(name: &str) -> Setting {
         "return-addresses" => Setting::ReturnAddresses,
         "refusals" => Setting::Refusals,
         "json" => Setting::Json,
+        "binary" => Setting::Binary,
         "demangle" => Setting::Demangle,
         "help" => Setting::Help,
         "version" => Setting::Version,
@@ -146,8 +173,17 @@ struct Parse {
     wants: Option<Setting>,
     // Help or version, whichever was asked for first.
     other: Option<Setting>,
-    // The first word with an option that `addr2line` alone has.
-    of_answers: Option<Vec<u8>>,
+    // Whether addresses are bytes.
+    binary: bool,
+    // The options, each with the word that it stands in.
+    given: Vec<Given>,
+}
+
+// An option that was given, and its word.
+#[derive(Drop)]
+struct Given {
+    setting: Setting,
+    word: Vec<u8>,
 }
 
 // Whether the words are to be read on.
@@ -161,11 +197,10 @@ fn wrong(alloc: Global, word: &[u8]) -> Trouble {
 }
 
 impl Parse {
-    // Keeps the first word with an option that `addr2line` alone has.
+    // Keeps an option with its word.
     fn keep(&mut self, alloc: Global, setting: Setting, word: &[u8]) -> Read {
-        if self.of_answers.is_none() && !matches!(setting, Setting::Json) {
-            self.of_answers = Some(copy(alloc, word)?);
-        }
+        let word = copy(alloc, word)?;
+        push(&mut self.given, Given { setting, word })?;
         Ok(())
     }
 
@@ -178,6 +213,7 @@ impl Parse {
             }
             Setting::Wrong => return Err(wrong(alloc, word)),
             Setting::File | Setting::Base => self.wants = Some(setting),
+            Setting::Binary => self.binary = true,
             _ => self.view = with_option(self.view, setting),
         }
         self.keep(alloc, setting, word)
@@ -277,6 +313,35 @@ impl Parse {
     }
 }
 
+// Whether a command has an option.
+fn takes(command: Command, setting: Setting) -> bool {
+    match setting {
+        Setting::Json => true,
+        Setting::File => matches!(command, Command::Answers | Command::Report),
+        Setting::Binary => matches!(command, Command::Report),
+        _ => matches!(command, Command::Answers),
+    }
+}
+
+fn no_such_option(command: Command) -> &'static str {
+    match command {
+        Command::Answers => "gsym addr2line has no such option:",
+        Command::Report => "gsym report has no such option:",
+        Command::Check => "gsym check has no such option:",
+        Command::Info => "gsym info has no such option:",
+    }
+}
+
+// The first option that a command doesn't have is told.
+fn judge_options(command: Command, given: Vec<Given>) -> Read {
+    for option in given {
+        if !takes(command, option.setting) {
+            return Err(Trouble::Misused(no_such_option(command), option.word));
+        }
+    }
+    Ok(())
+}
+
 fn is_word(word: &[u8], text: &str) -> bool
     ensures { IsTrue result ↔ (word.now ≡ text.now) }
 {
@@ -288,12 +353,10 @@ fn info_asked(parse: Parse) -> Result<Asked, Trouble> {
     let Parse {
         view,
         words,
-        of_answers,
+        given,
         ..
     } = parse;
-    if let Some(word) = of_answers {
-        return Err(Trouble::Misused("gsym info has no such option:", word));
-    }
+    judge_options(Command::Info, given)?;
     let mut words = words;
     let json = matches!(view.form, Form::Json);
     match words.pop() {
@@ -308,12 +371,10 @@ fn check_asked(parse: Parse) -> Result<Asked, Trouble> {
     let Parse {
         view,
         words,
-        of_answers,
+        given,
         ..
     } = parse;
-    if let Some(word) = of_answers {
-        return Err(Trouble::Misused("gsym check has no such option:", word));
-    }
+    judge_options(Command::Check, given)?;
     if words.is_empty() {
         return Err(Trouble::Usage("FILE is missing"));
     }
@@ -327,12 +388,39 @@ fn answers_asked(parse: Parse) -> Result<Asked, Trouble> {
         view,
         file,
         words,
+        given,
         ..
     } = parse;
+    judge_options(Command::Answers, given)?;
     match file {
         Some(file) => Ok(Asked::Answers(Answers { view, file, words })),
         None => Err(Trouble::Usage("-e FILE is missing")),
     }
+}
+
+// What `gsym report` is asked for.
+fn report_asked(parse: Parse) -> Result<Asked, Trouble> {
+    let Parse {
+        view,
+        file,
+        words,
+        binary,
+        given,
+        ..
+    } = parse;
+    judge_options(Command::Report, given)?;
+    if file.is_none() && !binary {
+        return Err(Trouble::Usage("-e FILE is missing"));
+    }
+    if binary && !words.is_empty() {
+        return Err(Trouble::Usage("gsym report --binary takes no ADDRESS"));
+    }
+    Ok(Asked::Report(Report {
+        json: matches!(view.form, Form::Json),
+        binary,
+        file,
+        words,
+    }))
 }
 
 fn asked_of(parse: Parse, command: Option<Vec<u8>>) -> Result<Asked, Trouble> {
@@ -346,6 +434,9 @@ fn asked_of(parse: Parse, command: Option<Vec<u8>>) -> Result<Asked, Trouble> {
     };
     if is_word(&command, "addr2line") {
         return answers_asked(parse);
+    }
+    if is_word(&command, "report") {
+        return report_asked(parse);
     }
     if is_word(&command, "info") {
         return info_asked(parse);
@@ -365,7 +456,8 @@ pub fn asked_by(alloc: Global, words: Vec<Vec<u8>>) -> Result<Asked, Trouble> {
         ended: false,
         wants: None,
         other: None,
-        of_answers: None,
+        binary: false,
+        given: Vec::new(alloc),
     };
     let mut command = None;
     for word in words {

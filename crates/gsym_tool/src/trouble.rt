@@ -21,6 +21,10 @@ pub enum Trouble {
     Memory,
     /// Standard input can't be read.
     Read(io::Error),
+    /// What is wrong with what was read of it.
+    Input(&'static str),
+    /// A word that is no address, where each has to be one.
+    NoAddress(Vec<u8>),
     /// Standard output can't be written.
     Write(io::Error),
     /// A file that can't be read.
@@ -99,6 +103,8 @@ pub fn push_reason(line: &mut Vec<u8>, trouble: &Trouble) -> io::Result<()> {
         Trouble::Misused(why, _) => push_str(line, why),
         Trouble::Memory => push_str(line, "out of memory"),
         Trouble::Read(error) => write!(line, "{error}"),
+        Trouble::Input(why) => push_str(line, why),
+        Trouble::NoAddress(_) => push_str(line, "no address"),
         Trouble::Write(error) => write!(line, "{error}"),
         Trouble::Unread(_, error) => write!(line, "{error}"),
         Trouble::File(_, why) => push_str(line, why),
@@ -112,7 +118,7 @@ pub fn push_reason(line: &mut Vec<u8>, trouble: &Trouble) -> io::Result<()> {
 // What it is about, before the reason.
 fn push_about(alloc: Global, line: &mut Vec<u8>, trouble: &Trouble) -> io::Result<()> {
     match trouble {
-        Trouble::Read(_) => push_str(line, "standard input: "),
+        Trouble::Read(_) | Trouble::Input(_) => push_str(line, "standard input: "),
         Trouble::Write(_) => push_str(line, "standard output: "),
         Trouble::Unread(name, _) => push_file(alloc, line, name),
         Trouble::File(name, _) => push_file(alloc, line, name),
@@ -133,6 +139,9 @@ fn push_word(alloc: Global, line: &mut Vec<u8>, trouble: &Trouble) -> io::Result
 
 /// A line that tells it.
 pub fn told(alloc: Global, trouble: &Trouble) -> io::Result<Vec<u8>> {
+    if let Trouble::NoAddress(word) = trouble {
+        return told_word(alloc, word);
+    }
     let mut line = Vec::new(alloc);
     push_str(&mut line, "gsym: ")?;
     push_about(alloc, &mut line, trouble)?;

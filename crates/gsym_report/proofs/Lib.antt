@@ -1,0 +1,4 @@
+pub mod Fronts
+pub mod LineTexts
+pub mod Addresses
+pub mod Plain
