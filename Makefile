@@ -1,8 +1,9 @@
-# libgsym.a, libgsym.so.0, the tool gsym-addr2line and gsym.pc, for hosts without the Rattle toolchain's build; and
-# `gsym` and `report_main`, the programs in Rattle, where the library is made too.
-#   make                            builds them here; the library is proved first (rt on the PATH, of README's kit)
-#   make LIBGSYM=path/libgsym.a     the same over a library that is there, without the toolchain; so in the archive of
-#                                   `make dist`, which has libgsym.a beside this file and no sources of it
+# libgsym.a, libgsym_write.a, libgsym.so.0, the tool gsym-addr2line and gsym.pc, for hosts without the Rattle
+# toolchain's build; and `gsym` and `report_main`, the programs in Rattle, where the library is made too.
+#   make                            builds them here; the libraries are proved first (rt on the PATH, of README's kit)
+#   make LIBGSYM=path/libgsym.a     the same over a library that is there, without the toolchain, and over the
+#                                   libgsym_write.a beside it, if there is one; so in the archive of `make dist`, which
+#                                   has both beside this file and no sources of them
 #   make install                    PREFIX=/usr/local DESTDIR= ; BINDIR, INCLUDEDIR, LIBDIR, MANDIR, DOCDIR too
 #   make uninstall                  with the same words
 #   make dist                       target/gsym-VERSION-x86_64-linux.tar.gz and its SHA-256: docs/ARCHIVE.md
@@ -25,6 +26,7 @@ INSTALL_DATA = $(INSTALL) -m 644
 RT ?= rt
 
 HEADER = include/gsym.h
+WRITE_HEADER = include/gsym_write.h
 PAGES = docs/PROMISES.md docs/RULES.md docs/ARCHIVE.md
 number = $(shell sed -n 's/^\#define GSYM_$(1) \([0-9]*\)$$/\1/p' $(HEADER))
 VERSION = $(call number,VERSION_MAJOR).$(call number,VERSION_MINOR).$(call number,VERSION_PATCH)
@@ -37,10 +39,14 @@ ifneq ($(wildcard crates.txt),)
 SOURCES := crates.txt $(shell find crates -name out -prune -o \( -name '*.rt' -o -name '*.antt' \) -print)
 endif
 
+# the library that writes files, which takes heap and so stands apart: made here, or the one beside LIBGSYM
+LIBGSYM_WRITE = $(if $(filter libgsym.a,$(LIBGSYM)),$(if $(SOURCES),target/libgsym_write.a,libgsym_write.a),$(wildcard \
+    $(dir $(LIBGSYM))libgsym_write.a))
+
 # the programs in Rattle, made where the library is made too; report_main is not installed
 GSYM = $(if $(SOURCES),$(if $(filter libgsym.a,$(LIBGSYM)),gsym))
 
-all: $(LIBGSYM) libgsym.so.0 gsym-addr2line gsym.pc $(GSYM) $(if $(GSYM),report_main)
+all: $(LIBGSYM) $(LIBGSYM_WRITE) libgsym.so.0 gsym-addr2line gsym.pc $(GSYM) $(if $(GSYM),report_main)
 
 ifneq ($(SOURCES),)
 libgsym.a: $(SOURCES)
@@ -53,6 +59,16 @@ libgsym.a: $(SOURCES)
 	cd target/objects && for crate in gsym_c gsym_text_c gsym_check_c; do \
 	    $(AR) x ../../crates/$$crate/out/lib$$crate.a || exit 1; done
 	$(AR) rcsD $@ target/objects/gsym_c.o target/objects/gsym_text_c.o target/objects/gsym_check_c.o
+
+# its memory comes from the program's malloc, by an object of the kit
+target/libgsym_write.a: $(SOURCES)
+	RT='$(RT)' sh tools/kit.sh
+	cd crates/gsym_write_c && $(RT) lib
+	rm -rf target/write_objects $@
+	mkdir -p target/write_objects
+	cd target/write_objects && $(AR) x ../../crates/gsym_write_c/out/libgsym_write_c.a && rt=$$(command -v $(RT)) && \
+	    $(AR) x "$${RATTLE_HOME:-$$(dirname "$$(dirname "$$(readlink -f "$$rt")")")}/c/liblibc_c.a" heap.pic.o
+	$(AR) rcsD $@ target/write_objects/gsym_write_c.o target/write_objects/heap.pic.o
 
 gsym: $(SOURCES)
 	RT='$(RT)' sh tools/kit.sh
@@ -109,6 +125,8 @@ install: all
 	$(if $(GSYM),$(INSTALL_DATA) man/gsym.1 '$(DESTDIR)$(MANDIR)/man1/gsym.1')
 	$(INSTALL_DATA) $(HEADER) '$(DESTDIR)$(INCLUDEDIR)/gsym.h'
 	$(INSTALL_DATA) $(LIBGSYM) '$(DESTDIR)$(LIBDIR)/libgsym.a'
+	$(if $(LIBGSYM_WRITE),$(INSTALL_DATA) $(WRITE_HEADER) '$(DESTDIR)$(INCLUDEDIR)/gsym_write.h')
+	$(if $(LIBGSYM_WRITE),$(INSTALL_DATA) $(LIBGSYM_WRITE) '$(DESTDIR)$(LIBDIR)/libgsym_write.a')
 	$(INSTALL_PROGRAM) libgsym.so.0 '$(DESTDIR)$(LIBDIR)/$(SONAME)'
 	ln -sf $(SONAME) '$(DESTDIR)$(LIBDIR)/libgsym.so.0'
 	ln -sf $(SONAME) '$(DESTDIR)$(LIBDIR)/libgsym.so'
@@ -121,13 +139,14 @@ install: all
 
 uninstall:
 	rm -f '$(DESTDIR)$(BINDIR)/gsym' '$(DESTDIR)$(MANDIR)/man1/gsym.1' '$(DESTDIR)$(BINDIR)/gsym-addr2line'
-	rm -f '$(DESTDIR)$(INCLUDEDIR)/gsym.h' '$(DESTDIR)$(LIBDIR)/libgsym.a' \
+	rm -f '$(DESTDIR)$(INCLUDEDIR)/gsym.h' '$(DESTDIR)$(INCLUDEDIR)/gsym_write.h' '$(DESTDIR)$(LIBDIR)/libgsym.a' \
+	    '$(DESTDIR)$(LIBDIR)/libgsym_write.a' \
 	    '$(DESTDIR)$(LIBDIR)/$(SONAME)' '$(DESTDIR)$(LIBDIR)/libgsym.so.0' '$(DESTDIR)$(LIBDIR)/libgsym.so' \
 	    '$(DESTDIR)$(PKGCONFIGDIR)/gsym.pc' '$(DESTDIR)$(MANDIR)/man1/gsym-addr2line.1' '$(DESTDIR)$(MANDIR)/man3/gsym.3'
 	rm -rf '$(DESTDIR)$(DOCDIR)'
 
 # nothing in it comes from this machine's C compiler: the same sources and the same kit give the same bytes
-FILES = Makefile LICENSE NOTICE gsym.pc.in $(HEADER) $(PAGES) $(TOOL) host/file.h host/gsym.map \
+FILES = Makefile LICENSE NOTICE gsym.pc.in $(HEADER) $(WRITE_HEADER) $(PAGES) $(TOOL) host/file.h host/gsym.map \
     host/sample/connector.gsym man/gsym-addr2line.1 man/gsym.3 examples/handler.c
 NAME = gsym-$(VERSION)-x86_64-linux
 
@@ -135,9 +154,9 @@ NAME = gsym-$(VERSION)-x86_64-linux
 in_checkout = @[ -f $(1) ] || \
     { echo "make $@: this needs a checkout of the repository; there is no $(1) here (docs/ARCHIVE.md)"; exit 2; }
 
-dist: $(LIBGSYM) $(FILES)
+dist: $(LIBGSYM) $(LIBGSYM_WRITE) $(FILES)
 	$(call in_checkout,tools/dist.sh)
-	sh tools/dist.sh '$(NAME)' '$(LIBGSYM)' $(FILES)
+	sh tools/dist.sh '$(NAME)' '$(LIBGSYM)' '$(LIBGSYM_WRITE)' $(FILES)
 
 check:
 	$(call in_checkout,test.sh)

@@ -1,10 +1,10 @@
 #!/bin/sh
-# Builds the bench's programs: `build.sh OUT [TREE]` puts line_whole, line_one, inline_whole, inline_one, numbers_whole,
-# numbers_one, lookup, report, check and stack into OUT, and there the corpus' kernel file as vmlinux612.gsym. The
-# libraries are those of this tree, which are proved and built first, or of another checkout TREE, where they must have
-# been built; of an older one without reports there is no program `report`. Needs rustc, the sources of blazesym 0.2.6
-# (BLAZESYM_SRC, see tests/oracle/README.md), the corpus with vmlinux612.gsym.xz (GSYM_CORPUS), and xz; answers 3 and
-# says so where they are not there.
+# Builds the bench's programs: `build.sh OUT [TREE]` puts line_whole, line_one, inline_whole, inline_one,
+# numbers_whole, numbers_one, lookup, report, write, check and stack into OUT, and there the corpus' kernel file as
+# vmlinux612.gsym. The libraries are those of this tree, which are proved and built first, or of another checkout TREE,
+# where they must have been built; of an older one without reports or a writer there is no program `report` or `write`.
+# Needs rustc, the sources of blazesym 0.2.6 (BLAZESYM_SRC, see tests/oracle/README.md), the corpus with
+# vmlinux612.gsym.xz (GSYM_CORPUS), and xz; answers 3 and says so where they are not there.
 set -eu
 cd "$(dirname "$0")/.."
 out=${1:?the folder to build in}
@@ -14,7 +14,8 @@ corpus=${GSYM_CORPUS:-../shared/corpus}
 command -v rustc >/dev/null 2>&1 || { echo "bench: no rustc here"; exit 3; }
 mkdir -p "$out"
 if [ "$tree" = . ]; then
-    make libgsym.a target/libreader_c.a target/libreport_c.a >"$out/rt.log" 2>&1 || { tail -n 20 "$out/rt.log"; exit 1; }
+    make libgsym.a target/libreader_c.a target/libreport_c.a target/libgsym_write.a >"$out/rt.log" 2>&1 ||
+        { tail -n 20 "$out/rt.log"; exit 1; }
 fi
 cp "$tree/libgsym.a" "$tree/target/libreader_c.a" "$out/"
 xz -dc "$corpus/vmlinux612.gsym.xz" >"$out/vmlinux612.gsym"
@@ -41,6 +42,14 @@ if [ -f "$tree/target/libreport_c.a" ]; then
     cp "$tree/target/libreport_c.a" "$out/"
     rustc --edition 2021 -C opt-level=3 -L "$out/whole" --extern "oracle=$out/whole/liboracle.rlib" -L "$out" \
         -l static=report_c -o "$out/report" bench/report.rs
+fi
+
+# and a writer
+rm -f "$out/write"
+if [ -f "$tree/target/libgsym_write.a" ]; then
+    cp "$tree/target/libgsym_write.a" "$out/"
+    rustc --edition 2021 -C opt-level=3 -L "$out/whole" --extern "oracle=$out/whole/liboracle.rlib" -L "$out" \
+        -l static=gsym_write -o "$out/write" bench/write.rs
 fi
 
 ORACLE_FLAGS="--cfg walk" sh tests/oracle/build.sh "$out/walk"

@@ -53,6 +53,12 @@ else # a TREE that is older than reports: the row isn't missing
     echo "$reports" >>"$tmp/rows"
 fi
 row "vmlinux612, check, the Rust a plain walk" check "$tmp/vmlinux612.gsym"
+writing="vmlinux612, writing, the Rust a copy of the file"
+if [ -f "$tmp/write" ]; then
+    row "$writing" write "$tmp/vmlinux612.gsym"
+else # likewise
+    echo "$writing" >>"$tmp/rows"
+fi
 row "tables without a row" lookup tables "tables without a row"
 row "line tables of one row" lookup rows "line tables of one row"
 row "names of two-byte letters" lookup letters "names of two-byte letters"

@@ -48,6 +48,13 @@ echo "the check of a whole file, vmlinux612, beside a plain walk of it by the Ru
 "$tmp/check" "$tmp/vmlinux612.gsym" check
 "$tmp/check" "$tmp/vmlinux612.gsym" time "$passes"
 
+if [ -f "$tmp/write" ]; then
+    echo
+    echo "writing the content of vmlinux612, beside a copy of as many bytes"
+    "$tmp/write" "$tmp/vmlinux612.gsym" check
+    "$tmp/write" "$tmp/vmlinux612.gsym" time "$passes"
+fi
+
 echo
 echo "instructions of one pass, of every tenth address or list where it looks up or reports: the Rust, this, ratio"
 status=0

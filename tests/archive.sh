@@ -81,7 +81,8 @@ grep -q "elsewhere/libgsym.a" "$tmp/log" || fail "make LIBGSYM=.. links nothing 
 bare ./gsym-addr2line -e host/sample/connector.gsym -fp 1065 || fail "the tool fails with LIBGSYM=.."
 version=${name#gsym-}
 version=${version%%-*}
-for file in bin/gsym-addr2line include/gsym.h lib/libgsym.a lib/libgsym.so lib/libgsym.so.0 lib/pkgconfig/gsym.pc \
+for file in bin/gsym-addr2line include/gsym.h include/gsym_write.h lib/libgsym.a lib/libgsym_write.a lib/libgsym.so \
+    lib/libgsym.so.0 lib/pkgconfig/gsym.pc \
     share/man/man1/gsym-addr2line.1 share/man/man3/gsym.3 share/doc/gsym/LICENSE share/doc/gsym/NOTICE \
     share/doc/gsym/docs/PROMISES.md share/doc/gsym/docs/RULES.md share/doc/gsym/examples/handler.c; do
     [ -s "$tmp/root/usr/$file" ] || fail "make install puts no $file"
@@ -104,6 +105,22 @@ bare env LD_LIBRARY_PATH="$root/lib" ./shared || fail "a program with libgsym.so
 bare ./shared && fail "a program by -lgsym needs no shared library"
 bare cc -I"$root/include" -o handler "$root/share/doc/gsym/examples/handler.c" "$root/lib/libgsym.a" ||
     fail "the example doesn't compile"
+cat >"$tmp/build/writer.c" <<'END'
+#include <gsym.h>
+#include <gsym_write.h>
+int main(void)
+{
+    gsym_entry function = {0x1000, 0, 32, 1};
+    gsym_file none = {0, 0};
+    const uint8_t strings[] = "\0main";
+    uint8_t out[128];
+    gsym_written w = gsym_write(&function, 1, 0, 0, 0, 0, &none, 1, strings, sizeof strings, out, sizeof out);
+    return w.number != 0 || gsym_lookup(out, w.len, 0x101f, 0, 0, 0).addr != 0x1000;
+}
+END
+bare cc -I"$root/include" -o writer writer.c "$root/lib/libgsym_write.a" "$root/lib/libgsym.a" ||
+    fail "a program doesn't link with libgsym_write.a"
+bare ./writer || fail "a program with libgsym_write.a answers otherwise"
 bare make uninstall PREFIX=/usr DESTDIR="$tmp/root" || fail "make uninstall fails"
 left=$(find "$tmp/root" -type f -o -type l)
 [ -z "$left" ] || fail "make uninstall leaves $left"

@@ -1,10 +1,11 @@
 #!/bin/sh
 # What hosts get: builds the library and the tools by `make`, and runs the C tests (tests/c), the tests of
-# the tools (tests/host), of the check of a whole file (tests/check), of reports (tests/report), of which entry an
-# address has (tests/runs), of torn numbers and such that are too wide (tests/numbers), of the differences to the Rust
-# and LLVM (tests/differences), the archive and what is installed of it (tests/archive.sh), that the library is the same
-# in another folder (tests/same_library.sh), the man pages (tests/man.sh), and the tests of the Rust binding
-# (tests/rust.sh). Says in plain words what this machine has no compiler for. Exit status 1 where one fails.
+# the tools (tests/host), of the check of a whole file (tests/check), of reports (tests/report), of files that are
+# written and files as text (tests/write), of which entry an address has (tests/runs), of torn numbers and such that are
+# too wide (tests/numbers), of the differences to the Rust and LLVM (tests/differences), the archive and what is
+# installed of it (tests/archive.sh), that the library is the same in another folder (tests/same_library.sh), the man
+# pages (tests/man.sh), and the tests of the Rust binding (tests/rust.sh). Says in plain words what this machine has no
+# compiler for. Exit status 1 where one fails.
 set -u
 cd "$(dirname "$0")/.." || exit 2
 tmp=$(mktemp -d) || exit 2
@@ -19,6 +20,7 @@ if command -v make >/dev/null 2>&1 && command -v "${CC:-cc}" >/dev/null 2>&1; th
         sh tests/host/info.sh ./gsym || [ $? = 3 ] || status=1
         sh tests/check/run.sh ./gsym ./libgsym.so.0 || [ $? = 3 ] || status=1
         sh tests/report/run.sh ./report_main ./gsym || [ $? = 3 ] || status=1
+        sh tests/write/run.sh ./gsym || [ $? = 3 ] || status=1
         sh tests/runs/run.sh ./libgsym.so.0 || [ $? = 3 ] || status=1
         sh tests/numbers/run.sh ./libgsym.so.0 || [ $? = 3 ] || status=1
         sh tests/differences/run.sh ./gsym-addr2line || [ $? = 3 ] || status=1

@@ -1,7 +1,7 @@
 #!/bin/sh
 # The replay programs can fail: given a vector of each kind with another expected answer, each reports that one and no
-# other. Needs the programs of the crates reader_cases, lookup_cases, check_cases and report_cases, which `rt ci` and
-# `rt run` build.
+# other. Needs the programs of the crates reader_cases, lookup_cases, check_cases, report_cases and write_cases, which
+# `rt ci` and `rt run` build.
 set -u
 cd "$(dirname "$0")/.." || exit 2
 tmp=$(mktemp -d) || exit 2
@@ -104,3 +104,18 @@ END {
     print "# right " right " wrong " wrong
 }' crates/report_cases/stdin >"$tmp/report_cases"
 replay report_cases "in a byte of the output, in its length, and where it is none"
+
+# the first case of each number that is expected, each right, then with its last digit raised; a case with no outcome,
+# and with none that is one; a word that is none
+awk "$raised"'
+!/^#/ && match($0, / = [0-9]+/) && !seen[substr($0, RSTART, RLENGTH)]++ {
+    print
+    right++
+    print raised($0); wrong++
+    given = substr($0, 1, RSTART - 1)
+    print given; wrong++
+    print given " ="; wrong++
+    print given " more" substr($0, RSTART); wrong++
+}
+END { print "# right " right " wrong " wrong }' crates/write_cases/stdin >"$tmp/write_cases"
+replay write_cases "of each number, in the outcome, where it is none, and where a word is none"

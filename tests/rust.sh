@@ -1,9 +1,10 @@
 #!/bin/sh
-# The binding for Rust: its tests; that its package has all it needs and is built by itself, from a copy that has
-# nothing else; where it looks for the library, and that it says so in one error where there is none; that it compiles
-# without std and without a heap; and by the oldest rustc that it names, where $RUSTC_OLD is one, and its cargo
-# $CARGO_OLD. Prints one line; exit status 3 where there is no cargo or no library. LIBGSYM_DIR may name the folder
-# with libgsym.a.
+# The binding for Rust: its tests, and with the feature `write` too where libgsym_write.a is there; that its package
+# has all it needs and is built by itself, from a copy that has nothing else; where it looks for the libraries, and that
+# it says so in one error where there is none; that it compiles without std and without a heap; and by the oldest rustc
+# that it names, where $RUSTC_OLD is one, and its cargo $CARGO_OLD. Prints one line; exit status 3 where there is no
+# cargo or no library. LIBGSYM_DIR may name the folder with libgsym.a and, there or in target/ below it,
+# libgsym_write.a.
 set -u
 cd "$(dirname "$0")/.." || exit 2
 top=$PWD
@@ -22,7 +23,17 @@ cd bindings/rust || exit 2
 
 GSYM_LIB_DIR=$dir cargo test --quiet >"$tmp/log" 2>&1 || fail "a test failed"
 groups=$(grep -c '^test result: ok' "$tmp/log")
-for features in "" "--features alloc"; do
+# the library that writes
+writer=
+for place in "$dir" "$dir/target"; do
+    [ -n "$writer" ] || [ ! -f "$place/libgsym_write.a" ] || writer=$place/libgsym_write.a
+done
+writes="writing was not tried: there is no libgsym_write.a"
+if [ -n "$writer" ]; then
+    GSYM_LIB_DIR=$dir cargo test --quiet --features write >"$tmp/log" 2>&1 || fail "a test with 'write' failed"
+    writes="$(grep -c '^test result: ok' "$tmp/log") with writing"
+fi
+for features in "" "--features alloc" ${writer:+"--features write"}; do
     # shellcheck disable=SC2086
     GSYM_LIB_DIR=$dir cargo build --quiet --no-default-features $features >"$tmp/log" 2>&1 ||
         fail "no build with '$features'"
@@ -35,7 +46,7 @@ version=$(sed -n 's/^version = "\(.*\)"$/\1/p' Cargo.toml)
 mkdir "$tmp/alone"
 tar xzf "$CARGO_TARGET_DIR/package/gsym-$version.crate" -C "$tmp/alone" || fail "cargo package wrote nothing"
 cd "$tmp/alone/gsym-$version" || exit 2
-for file in README.md BLAZESYM.md LICENSE NOTICE build.rs tests/face.rs tests/connector.gsym; do
+for file in README.md BLAZESYM.md LICENSE NOTICE build.rs tests/face.rs tests/write.rs tests/connector.gsym; do
     [ -s "$file" ] || fail "the package has no $file"
 done
 # copies, since a package has its files in its own folder
@@ -54,6 +65,15 @@ CARGO_TARGET_DIR=$tmp/relative GSYM_LIB_DIR=lib cargo test --quiet --test face >
 mkdir src/below
 (cd src/below && CARGO_TARGET_DIR=$tmp/relative GSYM_LIB_DIR=../../lib cargo build --quiet) >"$tmp/log" 2>&1 ||
     fail "a GSYM_LIB_DIR relative to where cargo is called doesn't do"
+if [ -n "$writer" ]; then
+    ! CARGO_TARGET_DIR=$tmp/relative GSYM_LIB_DIR=lib cargo build --quiet --features write >"$tmp/log" 2>&1 ||
+        fail "it builds with the feature 'write' and no libgsym_write.a"
+    grep -q 'gsym: there is no libgsym_write.a at .*lib, which the feature `write` needs' "$tmp/log" ||
+        fail "no clear error without libgsym_write.a"
+    cp "$writer" lib/
+    CARGO_TARGET_DIR=$tmp/relative GSYM_LIB_DIR=lib cargo test --quiet --features write --test write >"$tmp/log" 2>&1 ||
+        fail "it doesn't find libgsym_write.a beside libgsym.a"
+fi
 if command -v pkg-config >/dev/null 2>&1; then
     sed -e "s|@LIBDIR@|$PWD/lib|; s|@PREFIX@|$PWD|; s|@INCLUDEDIR@|$PWD|; s|@VERSION@|$version|" "$top/gsym.pc.in" \
         >lib/gsym.pc
@@ -109,7 +129,9 @@ before=$said
 said="rustc 1.63 was not tried (RUSTC_OLD)"
 if [ -n "$old" ]; then
     said=$($old --version)
-    for features in "" "--cfg feature=\"alloc\"" "--cfg feature=\"alloc\" --cfg feature=\"std\""; do
+    for features in "" "--cfg feature=\"alloc\"" "--cfg feature=\"alloc\" --cfg feature=\"write\"" \
+        "--cfg feature=\"alloc\" --cfg feature=\"std\" --cfg feature=\"write\"" \
+        "--cfg feature=\"alloc\" --cfg feature=\"std\""; do
         # shellcheck disable=SC2086
         $old --edition 2021 --crate-type rlib --crate-name gsym $features -o "$tmp/libgsym.rlib" src/lib.rs \
             >"$tmp/log" 2>&1 || fail "$said doesn't compile it with '$features'"
@@ -125,4 +147,5 @@ if [ -n "$old" ]; then
         said="$said, $($CARGO_OLD --version)"
     fi
 fi
-echo "bindings/rust: $groups groups of tests, the package alone, no std, the library found in four ways; $before$said"
+echo "bindings/rust: $groups groups of tests, $writes, the package alone, no std, the library found in four ways;" \
+    "$before$said"

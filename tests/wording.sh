@@ -6,7 +6,9 @@
 # crates/gsym_verify, in include/gsym.h (its enum and gsym_finding_name), in the binding (its text and its page), in
 # gsym(1) and in docs/RULES.md ("Checking a file"). The version of include/gsym.h is that of gsym_c, of gsym_tool, of
 # the binding and of the man pages, its date that of these, and its layout that of the exports of gsym_c, gsym_text_c
-# and gsym_check_c, of the shared library and of the binding. Prints what is otherwise; 1 if anything is.
+# and gsym_check_c, of the shared library and of the binding. What refuses a file that is to be written has one wording
+# in docs/RULES.md ("Writing a file") and include/gsym_write.h, whose layout is that of the export of gsym_write_c and
+# of the binding. Prints what is otherwise; 1 if anything is.
 set -u
 cd "$(dirname "$0")/.." || exit 2
 tmp=$(mktemp -d) || exit 2
@@ -185,6 +187,28 @@ while read -r plain linked; do
 done <"$tmp/mapped"
 [ -s "$tmp/mapped" ] || { echo "wording: include/gsym.h maps no call to its layout"; bad=1; }
 grep -q "^LIBGSYM_$layout {" host/gsym.map || { echo "wording: host/gsym.map is of another layout"; bad=1; }
+
+# ---- writing: what refuses a file has one wording in RULES and twice in the header, which has two numbers of its own;
+# and one layout in the header, the export and the binding
+awk '/^## / { open = $0 == "## Writing a file" } open && /^\| [0-9]+ \|/ { print }' docs/RULES.md |
+    sed 's/^| \([0-9]*\) | \([^|]*\) | .*/\1\t\2/' >"$tmp/writing"
+[ "$(wc -l <"$tmp/writing")" = 6 ] || { echo "wording: RULES has other numbers that refuse a file than six"; bad=1; }
+sed -n 's|^    GSYM_WRITE_[A-Z_]* = \([0-9]*\),\{0,1\}  *\/\* \(.*\) \*\/$|\1\t\2|p' include/gsym_write.h >"$tmp/enum"
+sed '/^3[34]\t/d' "$tmp/enum" >"$tmp/found"
+same "the enum of include/gsym_write.h" writing
+awk '
+    /gsym_write_name\(uint32_t number\)/ { open = 1; n = 29 }
+    open && /^}/ { exit }
+    open && match($0, /^        "[^"]*",$/) { print n++ "\t" substr($0, 10, RLENGTH - 11) }
+    open && /number == [1-9]/ { split($0, words, /== |\)/); at = words[2] + 0 }
+    open && at && match($0, /return "[^"]*"/) { print at "\t" substr($0, RSTART + 8, RLENGTH - 9); at = 0 }
+' include/gsym_write.h | sort -n >"$tmp/found"
+same "gsym_write_name of include/gsym_write.h" enum
+written=$(sed -n 's/^#define GSYM_WRITE_LAYOUT \([0-9]*\)$/\1/p' include/gsym_write.h)
+for where in include/gsym_write.h crates/gsym_write_c/src/lib.rt bindings/rust/src/write.rs bench/write.rs; do
+    grep -q "[ \"]gsym_write_$written\([(\"]\|$\)" $where ||
+        { echo "wording: $where has no gsym_write_$written"; bad=1; }
+done
 
 [ "$bad" = 0 ] && echo "wording: $count refusals have one wording in six places, $findings findings in six;" \
     "version $version stands in nine, layout $layout in four"

@@ -1,13 +1,16 @@
 #!/bin/sh
-# The archive for hosts without the toolchain: `dist.sh NAME LIBRARY FILE..`, from `make dist`. Writes
-# target/NAME.tar.gz, which has the library, these files and SHA256SUMS of all of them, and target/NAME.tar.gz.sha256.
+# The archive for hosts without the toolchain: `dist.sh NAME LIBRARY WRITER FILE..`, from `make dist`. Writes
+# target/NAME.tar.gz, which has the two libraries, these files and SHA256SUMS of all of them, and
+# target/NAME.tar.gz.sha256.
 # The bytes follow from the files' bytes alone: names in order, no owner, no time, no name in the packing.
 # docs/ARCHIVE.md tells a stranger how to check it.
 set -eu
 cd "$(dirname "$0")/.."
 name=$1
 library=$2
-shift 2
+writer=$3
+shift 3
+[ -f "$writer" ] || { echo "tools/dist: there is no libgsym_write.a beside $library"; exit 2; }
 LC_ALL=C
 export LC_ALL
 rm -rf "target/$name"
@@ -17,6 +20,7 @@ for file in "$@"; do
     cp "$file" "target/$name/$file"
 done
 cp "$library" "target/$name/libgsym.a"
+cp "$writer" "target/$name/libgsym_write.a"
 (
     cd "target/$name"
     find . -type d -exec chmod 755 {} +

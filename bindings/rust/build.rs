@@ -1,4 +1,5 @@
-// Finds the library: in $GSYM_LIB_DIR, else by pkg-config; else it says how to have it, and stops. README.md has more.
+// Finds the library: in $GSYM_LIB_DIR, else by pkg-config; else it says how to have it, and stops. With the feature
+// `write` the one that writes files too, which stands beside it, or in target/ of a checkout. README.md has more.
 use std::env;
 use std::path::{Path, PathBuf};
 use std::process::{exit, Command};
@@ -37,6 +38,20 @@ fn link(dir: &Path, kind: &str) {
     println!("cargo:rustc-link-lib={}=gsym", kind);
 }
 
+/// The library that writes files, where the other stands, or in a checkout below it.
+fn link_writer(dir: &Path) {
+    let places = [dir.to_path_buf(), dir.join("target")];
+    match places.iter().find(|place| place.join("libgsym_write.a").is_file()) {
+        Some(place) => {
+            let place = place.canonicalize().unwrap_or_else(|_| place.to_path_buf());
+            println!("cargo:rerun-if-changed={}", place.join("libgsym_write.a").display());
+            println!("cargo:rustc-link-search=native={}", place.display());
+            println!("cargo:rustc-link-lib=static=gsym_write");
+        }
+        None => fail(&format!("there is no libgsym_write.a at {}, which the feature `write` needs", dir.display())),
+    }
+}
+
 /// The folders that pkg-config names; none where it knows no gsym, or isn't there.
 fn known_to_pkg_config() -> Option<Vec<PathBuf>> {
     let program = env::var_os("PKG_CONFIG").unwrap_or_else(|| "pkg-config".into());
@@ -71,7 +86,12 @@ fn main() {
         None => known_to_pkg_config().unwrap_or_else(|| fail("pkg-config knows no gsym, and GSYM_LIB_DIR is not set")),
     };
     match places.iter().find_map(|place| kind(place).map(|kind| (place, kind))) {
-        Some((place, kind)) => link(place, kind),
+        Some((place, kind)) => {
+            link(place, kind);
+            if env::var_os("CARGO_FEATURE_WRITE").is_some() {
+                link_writer(place);
+            }
+        }
         None => fail(&format!("pkg-config names {}, and no libgsym is there", places[0].display())),
     }
 }

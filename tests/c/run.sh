@@ -1,16 +1,17 @@
 #!/bin/sh
-# The C host test: proves and builds the library by `make`, compiles face.c as C and, where there is a C++ compiler, as
-# C++, stack.c and the example of a crash handler, and runs them; the handler on a stack of just what include/gsym.h
-# asks for. What the archive and the shared library export, and what they take from elsewhere; that a program of the
-# header before doesn't link. face.c once more with sanitizers, where the compiler has them, and with the shared
-# library. Prints one line; the exit status is 3 where there is nothing to compile with. CC, CXX, CFLAGS and LIBGSYM
-# are honoured.
+# The C host test: proves and builds the libraries by `make`, compiles face.c as C and, where there is a C++ compiler,
+# as C++, stack.c, write.c and the example of a crash handler, and runs them; the handler on a stack of just what
+# include/gsym.h asks for. What the archives and the shared library export, and what they take from elsewhere; that a
+# program of the header before doesn't link. face.c and write.c once more with sanitizers, where the compiler has them,
+# face.c with the shared library. Prints a line of each library; the exit status is 3 where there is nothing to compile
+# with. CC, CXX, CFLAGS, LIBGSYM and LIBGSYM_WRITE are honoured.
 set -u
 cd "$(dirname "$0")/../.." || exit 2
 cc=${CC:-cc}
 cxx=${CXX:-c++}
 flags="${CFLAGS:--O2} -Wall -Wextra -Werror -Iinclude"
 library=${LIBGSYM:-libgsym.a}
+writer=${LIBGSYM_WRITE:-target/libgsym_write.a}
 command -v "$cc" >/dev/null 2>&1 || { echo "tests/c: not run, this machine has no C compiler '$cc'"; exit 3; }
 command -v make >/dev/null 2>&1 || { echo "tests/c: not run, this machine has no 'make'"; exit 3; }
 machine=$(uname -m)
@@ -156,4 +157,40 @@ if command -v readelf >/dev/null 2>&1; then
     LD_LIBRARY_PATH=$tmp "$tmp/face" >"$tmp/log" 2>&1 || fail "face.c, with the shared library, failed"
     as="$as and with the shared library"
 fi
+
+# ---- writing, by a library of its own
+[ "$writer" != target/libgsym_write.a ] || make "$writer" >"$tmp/all" 2>&1 ||
+    { tail -n 20 "$tmp/all" >"$tmp/log"; fail "the library that writes isn't proved"; }
+wraps=-Wl,--wrap=malloc,--wrap=free
+# shellcheck disable=SC2086
+"$cc" -std=c11 $flags -pthread $wraps -o "$tmp/write" tests/c/write.c "$writer" >"$tmp/log" 2>&1 ||
+    fail "write.c doesn't compile"
+"$tmp/write" >"$tmp/log" 2>&1 || fail "write.c failed"
+wrote=$(tail -n 1 "$tmp/log")
+# shellcheck disable=SC2086
+if "$cc" -std=c11 $flags -pthread $wraps -fsanitize=undefined,address -fno-sanitize-recover=all -o "$tmp/write" \
+    tests/c/write.c "$writer" >"$tmp/log" 2>&1; then
+    "$tmp/write" >"$tmp/log" 2>&1 || fail "write.c, with sanitizers, failed"
+    wrote="$wrote, with sanitizers too"
+fi
+if command -v "$cxx" >/dev/null 2>&1; then
+    printf '%s\n' '#include "gsym.h"' '#include "gsym_write.h"' \
+        'int main() { return gsym_write(0, 0, 0, 0, 0, 0, 0, 0, 0, 0, 0, 0).number != GSYM_WRITE_TOO_LITTLE_ROOM; }' \
+        >"$tmp/both.cpp"
+    # shellcheck disable=SC2086
+    "$cxx" -std=c++11 $flags -o "$tmp/both" "$tmp/both.cpp" "$library" "$writer" >"$tmp/log" 2>&1 ||
+        fail "gsym_write.h doesn't compile as C++"
+    "$tmp/both" || fail "a writer answers otherwise from C++"
+fi
+if command -v nm >/dev/null 2>&1; then
+    nm "$writer" 2>/dev/null | awk '$2 == "T" && $3 ~ /^gsym_/ { print $3 }' >"$tmp/log"
+    layout=$(sed -n 's/^#define GSYM_WRITE_LAYOUT \([0-9]*\)$/\1/p' include/gsym_write.h)
+    [ "$(cat "$tmp/log")" = "gsym_write_$layout" ] ||
+        fail "$writer has other names for hosts"
+    nm "$writer" 2>/dev/null | awk '$1 == "U" { print $2 } $2 == "T" { print $3 }' | grep -v '^gsym_\|^rattle_' |
+        sort -u >"$tmp/log"
+    [ "$(tr '\n' ' ' <"$tmp/log")" = "free malloc memcpy memmove memset realloc " ] ||
+        fail "$writer takes otherwise from elsewhere than gsym_write.h says"
+fi
 echo "tests/c: as $as $said; $stack; a crash handler$died"
+echo "tests/c: $wrote"

@@ -13,7 +13,7 @@ cd "$(dirname "$0")/../.." || exit 2
 here=tests/fuzz
 clang=${CLANG:-clang}
 out=${1:-target/fuzz}
-library="libgsym.a target/libreport_c.a"
+library="libgsym.a target/libreport_c.a target/libgsym_write.a"
 [ "$(uname -m)" = x86_64 ] || { echo "fuzz: not built, the library is for x86-64"; exit 3; }
 command -v "$clang" >/dev/null 2>&1 || { echo "fuzz: not built, there is no '$clang' here"; exit 3; }
 command -v rt >/dev/null 2>&1 || { echo "fuzz: not built, the toolchain's command 'rt' is not on the PATH"; exit 2; }
@@ -55,15 +55,16 @@ EOF
     sh tests/with_clang.sh "$out/clang" "$out/libgsym_counted.a" &&
         sh tests/with_clang.sh "$out/clang" "$out/libgsym_text_counted.a" gsym_text_c &&
         sh tests/with_clang.sh "$out/clang" "$out/libgsym_check_counted.a" gsym_check_c &&
-        sh tests/with_clang.sh "$out/clang" "$out/libreport_counted.a" report_c
+        sh tests/with_clang.sh "$out/clang" "$out/libreport_counted.a" report_c &&
+        sh tests/with_clang.sh "$out/clang" "$out/libgsym_write_counted.a" gsym_write_c
 }
 
 # built anew only where the library, this script or the kit is another
 # shellcheck disable=SC2086
 stamp=$(cat $library "$here/build.sh" tests/with_clang.sh "$kit/KIT-ID" 2>/dev/null | sha256sum)
-if [ "$stamp" != "$(cat "$out/stamp" 2>/dev/null)" ] || [ ! -f "$out/libreport_counted.a" ]; then
+if [ "$stamp" != "$(cat "$out/stamp" 2>/dev/null)" ] || [ ! -f "$out/libgsym_write_counted.a" ]; then
     rm -f "$out/libgsym_counted.a" "$out/libgsym_text_counted.a" "$out/libgsym_check_counted.a" \
-        "$out/libreport_counted.a" "$out/stamp"
+        "$out/libreport_counted.a" "$out/libgsym_write_counted.a" "$out/stamp"
     with_counters >"$out/log" 2>&1 && echo "$stamp" >"$out/stamp"
     rm -f "$out/clang" "$out/module.ll" "$out/module.plain.ll"
 fi
@@ -78,11 +79,12 @@ target() {
 }
 how="the library has counters and AddressSanitizer; the C side has sanitizers and no counters"
 over_counters() {
-    [ -f "$out/libreport_counted.a" ] || return 1
+    [ -f "$out/libgsym_write_counted.a" ] || return 1
     # shellcheck disable=SC2086
     "$clang" $flags $checked -c -o "$out/target.o" $here/target.c >"$out/log" 2>&1 &&
         target "$out/fuzz" "$out/target.o" "$out/libgsym_counted.a" "$out/libgsym_text_counted.a" \
-            "$out/libgsym_check_counted.a" "$out/libreport_counted.a"
+            "$out/libgsym_check_counted.a" "$out/libreport_counted.a" "$out/libgsym_write_counted.a" \
+            "$kit/c/liblibc_c.a"
 }
 if ! over_counters; then
     tail -n 5 "$out/log"

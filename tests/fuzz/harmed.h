@@ -10,6 +10,7 @@
 #include <string.h>
 
 #include "gsym.h"
+#include "gsym_write.h"
 
 static int harm(void)
 {
@@ -229,6 +230,62 @@ static size_t harmed_report(const uint8_t *file, size_t len, const uint64_t *add
     return n;
 }
 
+static gsym_written harmed_write(const gsym_entry *entries, size_t entry_count, const gsym_item *items,
+                                 size_t item_count, const uint8_t *bytes, size_t bytes_len, const gsym_file *files,
+                                 size_t file_count, const uint8_t *strings, size_t strings_len, uint8_t *out,
+                                 size_t out_len)
+{
+    static unsigned calls;
+    static volatile uint8_t seen;
+    static gsym_entry other_entries[1 << 10];
+    static gsym_item other_items[1 << 10];
+    memcpy(other_entries, entries, entry_count * sizeof *entries);
+    memcpy(other_items, items, item_count * sizeof *items);
+    switch (harm()) {
+    case 72: if (entry_count > 1) other_entries[entry_count - 1].addr++; break;
+    case 73: if (entry_count > 1) other_entries[1].name = other_entries[0].name; break;
+    case 74: if (entry_count > 0) other_entries[entry_count - 1].size ^= 1; break;
+    case 75: if (item_count > 1) other_items[item_count - 1].kind ^= 3; break;
+    case 76: for (size_t i = 0; i < item_count; i++) if (other_items[i].kind == 0) other_items[i].kind = 9; break;
+    case 77:
+        if (entry_count > 1 && other_entries[0].items > 0 && other_entries[0].items < 9)
+            other_entries[0].items--, other_entries[1].items++;
+        break;
+    case 78: if (file_count > 0) file_count--; break;
+    case 79: if (entry_count > 1 && other_entries[1].addr <= other_entries[0].addr) entry_count = 1; break;
+    default: break;
+    }
+    gsym_written w = gsym_write(other_entries, entry_count, other_items, item_count, bytes, bytes_len, files,
+                                file_count, strings, strings_len, out, out_len);
+    calls++;
+    switch (harm()) {
+    case 80: seen = bytes[bytes_len]; break;
+    case 81: seen = strings[strings_len]; break;
+    case 82: seen = (uint8_t)entries[-1].addr; break;
+    case 83: if (item_count > 0) *(volatile uint32_t *)(uintptr_t)&items[0].kind = 1; break;
+    case 84: if (file_count > 0) *(volatile uint32_t *)(uintptr_t)&files[0].filename = 0; break;
+    case 85: out[out_len] = 0; break;
+    case 86: out[-1] = 0; break;
+    case 87: if (w.number == 0 && w.len < out_len) out[w.len]++; break;
+    case 88: if (w.number != 0 && out_len > 0) out[0]++; break;
+    case 89: if (w.number == GSYM_WRITE_TOO_LITTLE_ROOM && out_len > 0) out[out_len - 1] = 0; break;
+    case 90: if (w.number == 0) out[w.len - 1] = 1; break;
+    case 91: if (w.number == 0) out[6] = 8; break;
+    case 92: if (w.number == 0) w.len--; break;
+    case 93: if (w.number == GSYM_WRITE_TOO_LITTLE_ROOM) w.len++; break;
+    case 94: if (w.number == GSYM_WRITE_TOO_LITTLE_ROOM) w.len = 0; break;
+    case 95: if (w.number == GSYM_WRITE_NOT_RISING) w.index--; break;
+    case 96: if (w.number == GSYM_WRITE_SUM_TOO_LARGE) w.number = GSYM_WRITE_UNREAD_STRING; break;
+    case 97: if (w.number == GSYM_WRITE_UNREAD_STRING && w.of_file) w.of_file = 0; break;
+    case 98: if (w.number == GSYM_WRITE_UNREAD_STRING) w.index += calls % 2; break;
+    case 99: if (w.number == GSYM_WRITE_UNEVEN_ROWS) w.number = GSYM_WRITE_NO_MEMORY; break;
+    case 100: if (w.number == GSYM_WRITE_UNEVEN_ROWS) w.index = 1; break;
+    default: break;
+    }
+    (void)seen;
+    return w;
+}
+
 #undef gsym_lookup
 #undef gsym_block_frames
 #undef gsym_check
@@ -236,5 +293,7 @@ static size_t harmed_report(const uint8_t *file, size_t len, const uint64_t *add
 #define gsym_block_frames harmed_frames
 #define gsym_check harmed_check
 #define gsym_report harmed_report
+#undef gsym_write
+#define gsym_write harmed_write
 
 #endif

@@ -6,9 +6,9 @@ set -u
 cd "$(dirname "$0")/../.." || exit 2
 clang=${CLANG:-clang}
 out=target/fuzz
-library="libgsym.a target/libreport_c.a"
+library="libgsym.a target/libreport_c.a target/libgsym_write.a"
 command -v "$clang" >/dev/null 2>&1 || { echo "harms: not run, there is no '$clang' here"; exit 3; }
-[ -d $out/first ] && [ -f libgsym.a ] && [ -f target/libreport_c.a ] ||
+[ -d $out/first ] && [ -f libgsym.a ] && [ -f target/libreport_c.a ] && [ -f target/libgsym_write.a ] ||
     { echo "harms: not run, tests/fuzz/run.sh has not run here"; exit 3; }
 tmp=$(mktemp -d) || exit 2
 trap 'rm -rf "$tmp"' EXIT

@@ -4,7 +4,7 @@
  * these symbols as blocks of their own, and its first bytes alone. A large file gives fewer inputs than a small one,
  * and a small one some in which an entry of its address table is the same as the one before it, some in which an
  * entry's line table or inline tree has a number that is too wide, or cut before its tenth byte, and one whose strings
- * have control bytes.
+ * have control bytes. Besides inputs of random bytes, of which rows are made.
  */
 #include "head.h"
 
@@ -124,6 +124,24 @@ static void control_seed(bytes f)
     memcpy(input + HEAD, kept, f.len);
 }
 
+/* bytes of which rows are made, from their start on */
+static void row_seeds(void)
+{
+    uint64_t dice = 0x2545f4914f6cdd1d;
+    for (int k = 0; k < 96; k++) {
+        size_t len = 60 + 6 * (size_t)k;
+        set_head(0, 0, 0, (unsigned)k * 997, 80, k % 2, 0);
+        for (size_t i = 0; i < len; i++) {
+            dice ^= dice << 13, dice ^= dice >> 7, dice ^= dice << 17;
+            input[HEAD + i] = (uint8_t)(dice >> 24);
+        }
+        /* at times the first address is near the highest */
+        if (k % 4 == 0)
+            input[HEAD] = 0;
+        write_seed(len);
+    }
+}
+
 int main(int n, char **words)
 {
     if (n < 3) {
@@ -131,6 +149,7 @@ int main(int n, char **words)
         return 2;
     }
     folder = words[1];
+    row_seeds();
     for (int w = 2; w < n; w++) {
         FILE *in = fopen(words[w], "rb");
         size_t len = in == 0 ? 0 : fread(input + HEAD, 1, FILE_ROOM, in);

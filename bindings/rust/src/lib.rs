@@ -22,7 +22,8 @@
 //! ```
 //!
 //! Features: `std` (on) has `std::error::Error` for refusals and findings, and opens files; `alloc` has [`Resolver`]
-//! over bytes; with neither the crate is `no_std` and takes no heap.
+//! over bytes; with neither the crate is `no_std` and takes no heap. `write` (off) has the module of that name, which
+//! writes files.
 #![no_std]
 #![deny(missing_docs)]
 #![deny(unsafe_op_in_unsafe_fn)]
@@ -38,6 +39,8 @@ mod raw;
 mod refusal;
 #[cfg(feature = "alloc")]
 mod resolver;
+#[cfg(feature = "write")]
+pub mod write;
 
 pub use finding::{Fault, Finding};
 pub use library::{check_library, version, OtherLibrary, VERSION};

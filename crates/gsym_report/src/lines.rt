@@ -146,7 +146,7 @@ pub fn write_report<W: Write>(file: &[u8], addresses: &[Address], out: &mut W) -
     // So many of the addresses are refused.
     ensures refused { IfOk result (λ count. count ≡ count_by is_refused (lookups_of file.now addresses.now)) }
 {
-    // One list for all, since a list of 64 costs more to fill than most addresses cost to look up.
+    // One list for all addresses, filled once.
     let mut frames = [Frame::default(); MAX_FRAMES];
     let mut refused = 0;
     for (index, address) in addresses.iter().enumerate() {

@@ -166,6 +166,17 @@ pub fn symbols(rt: &HostRuntime, name: &[u8]) -> Result<Vec<u8>, Trouble>
     Ok(bytes)
 }
 
+/// The bytes of a file, whatever they are.
+pub fn text_bytes(rt: &HostRuntime, name: &[u8]) -> Result<Vec<u8>, Trouble>
+    ensures { IfErr result (IsOfFile name.now) }
+{
+    let alloc = rt.alloc();
+    let file = opened(rt, name)?;
+    let mut bytes = Vec::new(alloc);
+    read_rest(alloc, name, &file, usize::MAX, &mut bytes)?;
+    Ok(bytes)
+}
+
 // Whether magic or version is wrong, which nothing behind them mends.
 fn has_wrong_start(file: &[u8]) -> bool
     ensures { IsTrue result ↔ (Refuses file.now WrongMagic ⊎ Refuses file.now WrongVersion) }

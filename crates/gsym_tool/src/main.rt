@@ -1,6 +1,7 @@
 //! The command-line tool `gsym`: `gsym addr2line -e FILE ..` answers addresses, `gsym report -e FILE ..` reports a
-//! crash, `gsym check FILE ..` checks whole files, `gsym info FILE` says what a file has. Every answer to a word is a
-//! text of `gsym_printed`, every report one of `gsym_report`. Files are read whole.
+//! crash, `gsym check FILE ..` checks whole files, `gsym info FILE` says what a file has, `gsym dump FILE` prints one
+//! as text, `gsym make -o NEW` writes one. Every answer to a word is a text of `gsym_printed`, every report one of
+//! `gsym_report`, and a file's text is `gsym_form`'s. Files are read whole.
 //!
 //!     arguments  the words of the command line, as bytes
 //!     options    what they ask for
@@ -9,14 +10,18 @@
 //!     report     reports of crashes
 //!     check      checks of whole files
 //!     info       header and tables
+//!     dump       files as text
+//!     make       files from their text
 //!     trouble    why no answer could be given
 #![tactic(auto)]
 
 mod addr2line;
 mod arguments;
 mod check;
+mod dump;
 mod files;
 mod info;
+mod make;
 mod options;
 mod report;
 mod trouble;
@@ -45,6 +50,8 @@ fn run(rt: &HostRuntime) -> Result<u8, Trouble> {
         Asked::Info(asked) => info::tell(rt, &asked),
         Asked::Check(asked) => check::check_all(rt, &asked),
         Asked::Report(asked) => report::tell(rt, &asked),
+        Asked::Dump(asked) => dump::tell(rt, &asked),
+        Asked::Make(asked) => make::tell(rt, &asked),
         Asked::Answers(asked) => addr2line::answer_all(rt, &asked),
     }
 }
@@ -54,7 +61,7 @@ fn main(rt: HostRuntime) -> ExitCode {
         Ok(status) => ExitCode::from(status),
         Err(trouble) => {
             trouble::tell(&rt, &trouble);
-            ExitCode::from(trouble::STATUS)
+            ExitCode::from(trouble.status())
         }
     }
 }

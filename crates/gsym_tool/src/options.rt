@@ -15,7 +15,10 @@ pub const USAGE: &str =
        gsym report [-e FILE] --binary [--json]
        gsym check [--json] FILE...
        gsym info [--json] FILE
+       gsym dump FILE
+       gsym make -o NEW [FILE]
   -e, --exe FILE          the GSYM symbol file
+  -o, --output NEW        the GSYM symbol file to write, from the text in FILE or on standard input
   -a, --addresses         print each address first
   -f, --functions         print function names
   -i, --inlines           print inlined calls too, from the innermost outwards
@@ -67,6 +70,21 @@ pub struct Report {
     pub words: Vec<Vec<u8>>,
 }
 
+/// What `gsym dump` is asked for.
+#[derive(Drop)]
+pub struct Dump {
+    pub file: Vec<u8>,
+}
+
+/// What `gsym make` is asked for.
+#[derive(Drop)]
+pub struct Make {
+    /// The file that is written.
+    pub output: Vec<u8>,
+    /// That of the text, `None` where it is on standard input.
+    pub file: Option<Vec<u8>>,
+}
+
 #[derive(Drop)]
 pub enum Asked {
     Help,
@@ -75,6 +93,8 @@ pub enum Asked {
     Report(Report),
     Info(Info),
     Check(Check),
+    Dump(Dump),
+    Make(Make),
 }
 
 // A command that takes no more than some of the options.
@@ -84,12 +104,15 @@ enum Command {
     Report,
     Check,
     Info,
+    Dump,
+    Make,
 }
 
 // What one option sets.
 #[derive(Clone, Copy)]
 enum Setting {
     File,
+    Output,
     Base,
     Address,
     Functions,
@@ -109,6 +132,7 @@ enum Setting {
 fn long_option(name: &str) -> Setting {
     match name {
         "exe" => Setting::File,
+        "output" => Setting::Output,
         "base" => Setting::Base,
         "addresses" => Setting::Address,
         "functions" => Setting::Functions,
@@ -129,6 +153,7 @@ fn long_option(name: &str) -> Setting {
 fn short_option(letter: u8) -> Setting {
     match letter {
         b'e' => Setting::File,
+        b'o' => Setting::Output,
         b'a' => Setting::Address,
         b'f' => Setting::Functions,
         b'i' => Setting::Inlines,
@@ -166,6 +191,7 @@ fn with_option(view: View, setting: Setting) -> View {
 struct Parse {
     view: View,
     file: Option<Vec<u8>>,
+    output: Option<Vec<u8>>,
     words: Vec<Vec<u8>>,
     // Whether what follows are addresses, whatever they begin with.
     ended: bool,
@@ -212,20 +238,15 @@ impl Parse {
                 return Ok(());
             }
             Setting::Wrong => return Err(wrong(alloc, word)),
-            Setting::File | Setting::Base => self.wants = Some(setting),
+            Setting::File | Setting::Output | Setting::Base => self.wants = Some(setting),
             Setting::Binary => self.binary = true,
             _ => self.view = with_option(self.view, setting),
         }
         self.keep(alloc, setting, word)
     }
 
-    // A value for the option before.
-    fn value(&mut self, setting: Setting, word: Vec<u8>) -> Read {
-        self.wants = None;
-        if !matches!(setting, Setting::Base) {
-            self.file = Some(word);
-            return Ok(());
-        }
+    // The base.
+    fn base(&mut self, word: Vec<u8>) -> Read {
         match gsym_printed::address_of(&word) {
             Some(base) => {
                 self.view.base = gsym::Address(base);
@@ -233,6 +254,17 @@ impl Parse {
             }
             None => Err(Trouble::Misused("--base wants an address, and this is none:", word)),
         }
+    }
+
+    // A value for the option before.
+    fn value(&mut self, setting: Setting, word: Vec<u8>) -> Read {
+        self.wants = None;
+        match setting {
+            Setting::Base => return self.base(word),
+            Setting::Output => self.output = Some(word),
+            _ => self.file = Some(word),
+        }
+        Ok(())
     }
 
     // Options of one letter, in one word.
@@ -261,7 +293,9 @@ impl Parse {
     // A long option with a value in its word.
     fn long_value(&mut self, alloc: Global, setting: Setting, value: &[u8], word: &[u8]) -> Read {
         match setting {
-            Setting::File | Setting::Base => self.value(setting, copy(alloc, value)?)?,
+            Setting::File | Setting::Output | Setting::Base => {
+                self.value(setting, copy(alloc, value)?)?;
+            }
             Setting::Demangle => {}
             _ => return Err(wrong(alloc, word)),
         }
@@ -303,6 +337,7 @@ impl Parse {
     fn missing(&self, alloc: Global) -> Read {
         let name = match self.wants {
             Some(Setting::Base) => "--base",
+            Some(Setting::Output) => "-o",
             Some(_) => "-e",
             None => return Ok(()),
         };
@@ -316,7 +351,8 @@ impl Parse {
 // Whether a command has an option.
 fn takes(command: Command, setting: Setting) -> bool {
     match setting {
-        Setting::Json => true,
+        Setting::Json => !matches!(command, Command::Dump | Command::Make),
+        Setting::Output => matches!(command, Command::Make),
         Setting::File => matches!(command, Command::Answers | Command::Report),
         Setting::Binary => matches!(command, Command::Report),
         _ => matches!(command, Command::Answers),
@@ -329,6 +365,8 @@ fn no_such_option(command: Command) -> &'static str {
         Command::Report => "gsym report has no such option:",
         Command::Check => "gsym check has no such option:",
         Command::Info => "gsym info has no such option:",
+        Command::Dump => "gsym dump has no such option:",
+        Command::Make => "gsym make has no such option:",
     }
 }
 
@@ -364,6 +402,38 @@ fn info_asked(parse: Parse) -> Result<Asked, Trouble> {
         Some(_) => Err(Trouble::Usage("gsym info takes one FILE alone")),
         None => Err(Trouble::Usage("FILE is missing")),
     }
+}
+
+// What `gsym dump` is asked for.
+fn dump_asked(parse: Parse) -> Result<Asked, Trouble> {
+    let Parse { words, given, .. } = parse;
+    judge_options(Command::Dump, given)?;
+    let mut words = words;
+    match words.pop() {
+        Some(file) if words.is_empty() => Ok(Asked::Dump(Dump { file })),
+        Some(_) => Err(Trouble::Usage("gsym dump takes one FILE alone")),
+        None => Err(Trouble::Usage("FILE is missing")),
+    }
+}
+
+// What `gsym make` is asked for.
+fn make_asked(parse: Parse) -> Result<Asked, Trouble> {
+    let Parse {
+        output,
+        words,
+        given,
+        ..
+    } = parse;
+    judge_options(Command::Make, given)?;
+    let Some(output) = output else {
+        return Err(Trouble::Usage("-o NEW is missing"));
+    };
+    let mut words = words;
+    let file = words.pop();
+    if !words.is_empty() {
+        return Err(Trouble::Usage("gsym make takes one FILE alone"));
+    }
+    Ok(Asked::Make(Make { output, file }))
 }
 
 // What `gsym check` is asked for.
@@ -444,6 +514,12 @@ fn asked_of(parse: Parse, command: Option<Vec<u8>>) -> Result<Asked, Trouble> {
     if is_word(&command, "check") {
         return check_asked(parse);
     }
+    if is_word(&command, "dump") {
+        return dump_asked(parse);
+    }
+    if is_word(&command, "make") {
+        return make_asked(parse);
+    }
     Err(Trouble::Misused("no such command:", command))
 }
 
@@ -452,6 +528,7 @@ pub fn asked_by(alloc: Global, words: Vec<Vec<u8>>) -> Result<Asked, Trouble> {
     let mut parse = Parse {
         view: View::default(),
         file: None,
+        output: None,
         words: Vec::new(alloc),
         ended: false,
         wants: None,

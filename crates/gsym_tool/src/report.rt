@@ -1,8 +1,10 @@
 //! Reports of crashes (RULES, "A report").
-ghost use Rattle.std.specs.Prelude.{◌≡◌, Some, map, if◌then◌else◌, OnOk, IfOk};
+ghost use Rattle.std.specs.Prelude.{◌≡◌, Some, map, if◌then◌else◌, OnOk, IfOk, IfErr};
 ghost use Rattle.std.specs.Io.KnownBytes.{Appends};
 ghost use Rattle.gsym_printed.specs.Words.{words, address_of};
 ghost use Rattle.gsym_tool.specs.Reports.{AreAddresses, json_view, json_line, json_report_of, report_text, output_of};
+ghost use Rattle.gsym_tool.specs.declared.trouble.Trouble.TheVariants.{Memory};
+ghost use Rattle.gsym_tool.specs.Troubles.{IsOfInput, IsOfOutput, IsOfWords};
 ghost use Rattle.gsym_tool.specs.Reports.{is_known_json, all_known_json, all_known, status_of_input};
 
 use super::addr2line::{UNKNOWN, both, flush, put, whole_answer};
@@ -25,7 +27,8 @@ const MOST_BEHIND: u64 = gsym_report::MOST_ADDRESSES as u64 * 8;
 
 // The address that a word is; a word that is none ends the run.
 fn address_in(alloc: Global, word: &[u8]) -> Result<Address, Trouble>
-    ensures { IfOk result (λ a. Some a.0 ≡ address_of word.now) }
+    ensures address { IfOk result (λ a. Some a.0 ≡ address_of word.now) }
+    ensures words { IfErr result IsOfWords }
 {
     match gsym_printed::address_of(word) {
         Some(address) => Ok(Address(address)),
@@ -36,7 +39,8 @@ fn address_in(alloc: Global, word: &[u8]) -> Result<Address, Trouble>
 // Those of words.
 #[tactic(auto, using(crate::proofs::Addressing::addressed_next, crate::proofs::Addressing::addressed_last))]
 fn addresses_of_words(alloc: Global, words: &[Vec<u8>]) -> Result<Vec<Address>, Trouble>
-    ensures { IfOk result (λ list. AreAddresses (map (λ w. w.items) words.now) list.items) }
+    ensures addresses { IfOk result (λ list. AreAddresses (map (λ w. w.items) words.now) list.items) }
+    ensures words { IfErr result IsOfWords }
 {
     let mut addresses = Vec::new(alloc);
     for word in words {
@@ -48,7 +52,8 @@ fn addresses_of_words(alloc: Global, words: &[Vec<u8>]) -> Result<Vec<Address>, 
 // Those of the words of a text.
 #[tactic(auto, using(crate::proofs::Addressing::addressed_more, crate::proofs::Addressing::addressed_end))]
 fn addresses_of_text(alloc: Global, text: &[u8]) -> Result<Vec<Address>, Trouble>
-    ensures { IfOk result (λ list. AreAddresses (words text.now) list.items) }
+    ensures addresses { IfOk result (λ list. AreAddresses (words text.now) list.items) }
+    ensures words { IfErr result IsOfWords }
 {
     let mut addresses = Vec::new(alloc);
     let mut rest = text;
@@ -62,7 +67,9 @@ fn addresses_of_text(alloc: Global, text: &[u8]) -> Result<Vec<Address>, Trouble
 }
 
 // The next bytes of an input, as many as there are up to a limit, behind those that are there.
-fn read_some<R: Read>(input: &mut R, limit: u64, bytes: &mut Vec<u8>) -> Result<(), Trouble> {
+fn read_some<R: Read>(input: &mut R, limit: u64, bytes: &mut Vec<u8>) -> Result<(), Trouble>
+    ensures { IfErr result IsOfInput }
+{
     match input.take(limit).read_to_end(bytes) {
         Ok(_) => Ok(()),
         Err(error) => Err(Trouble::Read(error)),
@@ -81,7 +88,9 @@ fn all_input(rt: &HostRuntime) -> Result<Vec<u8>, Trouble> {
 
 // A whole input, or as much of it as shows that it is none, so that an endless one ends: how many bytes its file has,
 // that many, its addresses, and a byte more.
-fn whole_input(rt: &HostRuntime) -> Result<Vec<u8>, Trouble> {
+fn whole_input(rt: &HostRuntime) -> Result<Vec<u8>, Trouble>
+    ensures { IfErr result IsOfInput }
+{
     let mut bytes = Vec::new(rt.alloc());
     let mut input = rt.reader();
     read_some(&mut input, 4, &mut bytes)?;
@@ -133,6 +142,7 @@ fn json_line(
 ) -> Result<(Vec<u8>, bool), Trouble>
     ensures text { IfOk result (λ line. line.0.items ≡ json_line file.now index address) }
     ensures known { IfOk result (λ line. line.1 ≡ is_known_json file.now index address) }
+    ensures memory { IfErr result (λ trouble. trouble ≡ Memory) }
 {
     let word = format!(in alloc; "{:x}", address.0)?;
     let (answer, outcome) = whole_answer(alloc, json_view(index), file, word.as_bytes())?;
@@ -155,6 +165,7 @@ fn put_json<W: Write>(
     ensures text { OnOk result (Appends (W.contents out.old) (W.contents out.new)
         (json_report_of file.now addresses.now)) }
     ensures known { IfOk result (λ known. known ≡ all_known_json file.now addresses.now) }
+    ensures output { IfErr result IsOfOutput }
 {
     let mut all = true;
     for (index, address) in addresses.iter().enumerate() {
@@ -176,6 +187,7 @@ fn put_report<W: Write>(
     ensures text { OnOk result (Appends (W.contents out.old) (W.contents out.new)
         (report_text json file.now addresses.now)) }
     ensures known { IfOk result (λ known. known ≡ all_known json file.now addresses.now) }
+    ensures output { IfErr result IsOfOutput }
 {
     if json {
         return put_json(alloc, file, addresses, out);
@@ -198,6 +210,7 @@ fn put_output<W: Write>(alloc: Global, json: bool, input: &[u8], out: &mut W) ->
     ensures text { OnOk result (Appends (W.contents out.old) (W.contents out.new)
         (output_of json input.now)) }
     ensures status { IfOk result (λ status. status ≡ status_of_input json input.now) }
+    ensures output { IfErr result IsOfOutput }
 {
     match gsym_report::question_of(alloc, usize::MAX, input)? {
         Some(question) => {

@@ -6,11 +6,16 @@ ghost use Rattle.gsym_tool.specs.declared.trouble.Trouble.TheVariants.{Memory};
 
 use super::options::USAGE;
 use gsym::Refusal;
+use gsym_form::Wrong;
+use gsym_writer::WriteError;
 use std::alloc::{AllocError, Global};
 use std::io::{self, Write};
 
 /// The exit status where no answer could be given.
 pub const STATUS: u8 = 2;
+
+// That where no file is made of a text.
+const NO_FILE: u8 = 1;
 
 #[derive(Drop)]
 pub enum Trouble {
@@ -33,6 +38,12 @@ pub enum Trouble {
     File(Vec<u8>, &'static str),
     /// A file that is refused.
     Refused(Vec<u8>, Refusal),
+    /// A file that can't be written.
+    Unwritten(Vec<u8>, io::Error),
+    /// A wrong line, counted from 1, in a file's text or on standard input.
+    WrongLine(Option<Vec<u8>>, usize, Wrong),
+    /// What refuses the file of a text, and the line that it is about, where it is about one.
+    Unmade(Option<Vec<u8>>, Option<usize>, WriteError),
 }
 
 impl Trouble {
@@ -41,6 +52,14 @@ impl Trouble {
         match self {
             Trouble::Write(error) => error.kind() != io::ErrorKind::BrokenPipe,
             _ => true,
+        }
+    }
+
+    /// The exit status of a run that ends so.
+    pub fn status(&self) -> u8 {
+        match self {
+            Trouble::WrongLine(..) | Trouble::Unmade(..) => NO_FILE,
+            _ => STATUS,
         }
     }
 
@@ -112,6 +131,26 @@ pub fn push_reason(line: &mut Vec<u8>, trouble: &Trouble) -> io::Result<()> {
             write!(line, "refused: {}, ", refusal.number())?;
             push_str(line, gsym_printed::refusal_name(*refusal))
         }
+        Trouble::Unwritten(_, error) => write!(line, "{error}"),
+        Trouble::WrongLine(_, _, wrong) => write!(line, "{wrong}"),
+        Trouble::Unmade(_, _, error) => write!(line, "refused: {}, {error}", error.number()),
+    }
+}
+
+// The text that a line is of, and the line.
+fn push_line(
+    alloc: Global,
+    line: &mut Vec<u8>,
+    name: &Option<Vec<u8>>,
+    number: Option<usize>,
+) -> io::Result<()> {
+    match name {
+        Some(name) => push_file(alloc, line, name)?,
+        None => push_str(line, "standard input: ")?,
+    }
+    match number {
+        Some(number) => write!(line, "line {number}: "),
+        None => Ok(()),
     }
 }
 
@@ -123,6 +162,9 @@ fn push_about(alloc: Global, line: &mut Vec<u8>, trouble: &Trouble) -> io::Resul
         Trouble::Unread(name, _) => push_file(alloc, line, name),
         Trouble::File(name, _) => push_file(alloc, line, name),
         Trouble::Refused(name, _) => push_file(alloc, line, name),
+        Trouble::Unwritten(name, _) => push_file(alloc, line, name),
+        Trouble::WrongLine(name, number, _) => push_line(alloc, line, name, Some(*number)),
+        Trouble::Unmade(name, number, _) => push_line(alloc, line, name, *number),
         _ => Ok(()),
     }
 }

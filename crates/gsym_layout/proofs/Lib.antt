@@ -1,0 +1,10 @@
+pub mod Widths
+pub mod Fits
+pub mod Places
+pub mod Lists
+pub mod Items
+pub mod Parts
+pub mod Addresses
+pub mod ReadBack
+pub mod Answering
+pub mod Passes

@@ -1,0 +1,5 @@
+pub mod Given
+pub mod Layout
+pub mod Writable
+pub mod ReadBack
+pub mod Examples

@@ -1,0 +1,2 @@
+pub mod Lists
+pub mod Written

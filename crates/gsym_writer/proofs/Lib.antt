@@ -1,0 +1,14 @@
+pub mod Behind
+pub mod Numbers
+pub mod Left
+pub mod Lengths
+pub mod Strings
+pub mod Judged
+pub mod Planned
+pub mod Heads
+pub mod Whole
+pub mod Rising
+pub mod Passing
+pub mod Tests
+pub mod Refusals
+pub mod Says
