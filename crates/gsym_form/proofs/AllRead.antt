@@ -1,16 +1,16 @@
 -- Whether the information of each entry reads, one entry on.
 -- Assumes nothing.
-use Rattle.std.proofs.Common.{◌≡◌, ℕ, suc, ◌+◌, ◌≤◌, ◌&&◌, Bool, true, false, ◌∷◌, length, drop, drop-cons, refl}
-use Rattle.std.proofs.Common.{drop_of_length-le, Option, Some, None, ◌⊎◌, inl, inr, get_or, sym, ap, ◌∙◌, ◌<◌, add-one}
+use Rattle.std.proofs.Common.{◌≡◌, ℕ, ◌+◌, ◌≤◌, ◌&&◌, Bool, true, false, length, drop, refl, arith}
+use Rattle.std.proofs.Common.{drop_of_length-le, Option, Some, None, ◌⊎◌, inl, inr, get_or, sym, ap, ◌∙◌, ◌<◌}
 use Rattle.std.specs.Prelude.{is_some}
 use Rattle.std.specs.List.{slice_get}
-use Rattle.std.proofs.lemmas.Option.{slice_get_within, slice_get_cases, get_or_from_slice_get}
-use Rattle.std.proofs.Common.{arith}
+use Rattle.std.proofs.lemmas.Option.{slice_get_cases}
 use Rattle.gsym_parser.specs.View.{View}
 use Rattle.gsym_parser.specs.Search.{entries_of}
 use Rattle.gsym_parser.specs.Entries.{info_at}
 use Rattle.gsym_parser.proofs.Table.{length-table, len-le}
 use Rattle.gsym_form.specs.Printed.{all_read_from, all_read}
+use Rattle.gsym_form.proofs.DumpLines.{drop_there}
 
 and_true : (a : Bool) → (a && true) ≡ a
 and_true true = refl
@@ -35,10 +35,13 @@ module _ (v : View) (all : Bool) (i : ℕ) where
   past_none (inl a) p = let z : ◌≡◌ {A = Option ℕ} None (Some a.0) = sym p ∙ a.2 in absurd cc
   past_none (inr b) p = b.0
 
+  pub none_past : slice_get (entries_of v) i ≡ None → length (entries_of v) ≤ i
+  none_past p = past_none (slice_get_cases (entries_of v) i).1 p
+
   -- where there is none
   pub read_none : slice_get (entries_of v) i ≡ None →
       (all && all_read_from v i (drop i (entries_of v))) ≡ all_read v → all ≡ all_read v
-  read_none p h = read_past (past_none (slice_get_cases (entries_of v) i).1 p) h
+  read_none p h = read_past (none_past p) h
 
   -- behind the count
   pub read_ended : v.tables.count ≤ i →
@@ -52,10 +55,7 @@ module _ (v : View) (all : Bool) (i : ℕ) where
       (more && all_read_from v (i + 1) (drop (i + 1) (entries_of v))) ≡ all_read v
   unfolding all_read_from
   read_next e more p m h =
-      let s : drop i (entries_of v) ≡ e ∷ drop (i + 1) (entries_of v) =
-      rw (add-one i)
-      (drop-cons (entries_of v) i e (slice_get_within (entries_of v) i e p)
-      ∙ ap (λ x. x ∷ drop (suc i) (entries_of v)) (get_or_from_slice_get (entries_of v) i e e p)) in
+      let s = drop_there (entries_of v) i e p in
       rw m
       (and_assoc all (is_some (info_at v i)) (all_read_from v (i + 1) (drop (i + 1) (entries_of v)))
       ∙ ap (λ x. all && x) (sym (ap (all_read_from v i) s)) ∙ h)

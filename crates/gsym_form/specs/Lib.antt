@@ -1,3 +1,11 @@
 pub mod Form
 pub mod Lines
 pub mod Printed
+pub mod Pieces
+pub mod Words
+pub mod Said
+pub mod Parsed
+pub mod Taken
+pub mod Examples
+pub mod Again
+pub mod Kept

@@ -1,44 +1,72 @@
 //! What a text says, line by line (RULES, "A file as text").
-ghost use Rattle.std.specs.Prelude.{IfErr};
+ghost use Rattle.std.specs.Prelude.{◌≡◌, ◌+◌, ◌++◌, ◌∷◌, [], true, option_map, IfOk, OnOk, IfErr};
+ghost use Rattle.std.specs.List.{slice_split};
+ghost use Rattle.gsym_form.specs.Kept.{reading_said, texts_said, IsWhole, TellsLines, unread_of};
 ghost use Rattle.gsym_form.specs.Lines.{IsCounted};
+ghost use Rattle.gsym_form.specs.Parsed.{ReadAs};
+ghost use Rattle.gsym_form.specs.Said.{text_said, is_string_at, with_text, put_text, offset_of, string, early};
+ghost use Rattle.gsym_form.specs.Said.{read_string, read_bytes, read_file, read_entry, read_item, read_start, read_end};
+ghost use Rattle.gsym_form.specs.Said.{is_indented, ends_in, read_words, line_said, lines_said, is_newline};
+ghost use Rattle.gsym_form.specs.Said.{with_table, line_count};
+ghost use Rattle.gsym_form.specs.Taken.{TellsOf};
+ghost use Rattle.gsym_form.specs.Words.{word, is_word, behind_word};
 
 use super::form::{Form, FormEntry, FormItem};
-use super::line::{Line, push};
+use super::line::{Line, add};
 use super::wrong::{Problem, Unread, Wrong};
 use gsym_writer::{Address, FileInfo, StrOffset};
 use std::alloc::{AllocError, Global};
 use std::collections::BTreeMap;
 
+// How far a text was read: to no line that says anything, to the form's own line, or to the last.
+#[derive(Clone, Copy)]
+enum Stage {
+    Before,
+    Within,
+    Behind,
+}
+
 // What was read so far.
 #[derive(Drop)]
 struct Reading {
     form: Form,
-    // The offset of each text that has a place of its own.
+    // The offset of each text that was put into the table with a zero byte, the first of each.
     offsets: BTreeMap<Vec<u8>, u32>,
-    // Whether the form's own line was read.
-    is_started: bool,
-    // Whether a line of strings was.
+    stage: Stage,
+    // Whether the string table has begun.
     has_strings: bool,
-    // Whether one of a file or an entry was.
+    // Whether it is at its end, so that no line of strings may come.
     has_more: bool,
-    // Whether the last was.
-    is_ended: bool,
 }
 
-fn copy(alloc: Global, bytes: &[u8]) -> Result<Vec<u8>, AllocError> {
+fn copy(alloc: Global, bytes: &[u8]) -> Result<Vec<u8>, AllocError>
+    ensures { IfOk result (λ list. list.items ≡ bytes.now) }
+{
     let mut list = Vec::new(alloc);
     list.extend_from_slice(bytes)?;
     Ok(list)
 }
 
-// One thing more.
-fn add<T: Drop>(list: &mut Vec<T>, thing: T) -> Result<(), AllocError> {
-    list.push(thing)?;
+// Keeps the place of a text, unless one is known.
+fn keep(
+    alloc: Global,
+    offsets: &mut BTreeMap<Vec<u8>, u32>,
+    text: &[u8],
+    offset: u32,
+) -> Result<(), AllocError>
+    ensures { OnOk result (texts_said offsets.new ≡ with_text (texts_said offsets.old) text.now offset) }
+{
+    if offsets.get(text).is_some() {
+        return Ok(());
+    }
+    let _ = offsets.insert(copy(alloc, text)?, offset)?;
     Ok(())
 }
 
 // Whether a text is the string at an offset.
-fn is_string_at(strings: &[u8], offset: u32, text: &[u8]) -> bool {
+fn is_string_at(strings: &[u8], offset: u32, text: &[u8]) -> bool
+    ensures { result ≡ is_string_at strings.now offset text.now }
+{
     let Some(from) = strings.get(offset as usize..) else {
         return false;
     };
@@ -48,37 +76,94 @@ fn is_string_at(strings: &[u8], offset: u32, text: &[u8]) -> bool {
     }
 }
 
-impl Reading {
-    // Keeps the place of a text, unless one is known.
-    fn keep(&mut self, alloc: Global, text: &[u8], offset: u32) -> Result<(), AllocError> {
-        if self.offsets.get(text).is_none() {
-            let _ = self.offsets.insert(copy(alloc, text)?, offset)?;
-        }
-        Ok(())
+// Whether nothing stands behind the last such byte.
+fn ends_in(bytes: &[u8], byte: u8) -> bool
+    ensures { result ≡ ends_in byte bytes.now }
+{
+    match bytes.last() {
+        Some(last) => *last == byte,
+        None => true,
     }
+}
 
+// Whether a word is this one.
+fn is_word(word: Option<&[u8]>, wanted: &[u8]) -> bool
+    ensures { result ≡ is_word wanted.now (option_map (λ w. (w.now, [])) word.entry) }
+{
+    word == Some(wanted)
+}
+
+// Takes the next word, and answers whether it is this one.
+fn takes(line: &mut Line<'_>, wanted: &[u8]) -> bool
+    ensures is { result ≡ is_word wanted.now (word line.old.rest.now) }
+    ensures rest { result ≡ true → line.new.rest.now ≡ behind_word (word line.old.rest.now) }
+{
+    is_word(line.word(), wanted)
+}
+
+// Whether a blank or a tab stands before all words.
+fn is_indented(bytes: &[u8]) -> bool
+    ensures { result ≡ is_indented bytes.now }
+{
+    for byte in bytes {
+        if *byte != b'\r' {
+            return *byte == b' ' || *byte == b'\t';
+        }
+    }
+    false
+}
+
+// What ends the reading of a line, with the line's number.
+fn unread(number: usize, problem: Problem) -> Unread
+    ensures { result ≡ unread_of number problem }
+{
+    match problem {
+        Problem::Memory => Unread::Memory,
+        Problem::Wrong(wrong) => Unread::Line(number, wrong),
+    }
+}
+
+impl Reading {
     // The offset of a text that is put behind all strings, with a zero byte.
-    fn put(&mut self, alloc: Global, text: &[u8]) -> Result<u32, Problem> {
-        let offset = u32::try_from(self.form.strings.len()).map_err(|_| Wrong::FullStrings)?;
+    #[tactic(auto, unfolding(crate::specs::Said::put_text))]
+    fn put(&mut self, alloc: Global, text: &[u8]) -> Result<u32, Problem>
+        requires { IsWhole self.old }
+        ensures says { TellsOf (λ n. (n, reading_said self.new)) result (put_text (reading_said self.old) text.now) }
+        ensures whole { IsWhole self.new }
+    {
+        let Ok(offset) = u32::try_from(self.form.strings.len()) else {
+            return Err(Problem::Wrong(Wrong::FullStrings));
+        };
         self.form.strings.extend_from_slice(text)?;
-        push(&mut self.form.strings, 0)?;
-        self.keep(alloc, text, offset)?;
+        add(&mut self.form.strings, 0)?;
+        keep(alloc, &mut self.offsets, text, offset)?;
         Ok(offset)
     }
 
     // The offset of a text: where it stands by itself, or at the end.
-    fn offset_of(&mut self, alloc: Global, text: &[u8]) -> Result<u32, Problem> {
+    #[tactic(auto, using(crate::proofs::Strings::offsets))]
+    fn offset_of(&mut self, alloc: Global, text: &[u8]) -> Result<u32, Problem>
+        requires { IsWhole self.old }
+        ensures says { TellsOf (λ n. (n, reading_said self.new)) result (offset_of (reading_said self.old) text.now) }
+        ensures whole { IsWhole self.new }
+    {
         if let Some(offset) = self.offsets.get(text) {
             return Ok(*offset);
         }
-        match self.form.strings.last() {
-            Some(last) if *last != 0 => Err(Problem::Wrong(Wrong::FullStrings)),
-            _ => self.put(alloc, text),
+        if !ends_in(&self.form.strings, 0) {
+            return Err(Problem::Wrong(Wrong::FullStrings));
         }
+        self.put(alloc, text)
     }
 
     // An offset, a text, or an offset and the text at it.
-    fn string(&mut self, alloc: Global, line: &mut Line<'_>) -> Result<StrOffset, Problem> {
+    #[tactic(auto, unfolding(crate::specs::Said::string, crate::specs::Said::text_string, crate::specs::Said::offset_string, crate::specs::Said::same_text))]
+    fn string(&mut self, alloc: Global, line: &mut Line<'_>) -> Result<StrOffset, Problem>
+        requires { IsWhole self.old }
+        ensures says { TellsOf (λ o. ((o, reading_said self.new), line.new.rest.now)) result
+            (string (reading_said self.old) line.old.rest.now) }
+        ensures whole { IsWhole self.new }
+    {
         if line.is_text() {
             let text = line.text(alloc)?;
             return Ok(StrOffset(self.offset_of(alloc, &text)?));
@@ -93,26 +178,13 @@ impl Reading {
         Ok(StrOffset(offset))
     }
 
-    // `string TEXT`
-    fn read_string(&mut self, alloc: Global, line: &mut Line<'_>) -> Result<(), Problem> {
-        self.may_have_strings()?;
-        let text = line.text(alloc)?;
-        line.end()?;
-        self.put(alloc, &text)?;
-        Ok(())
-    }
-
-    // `bytes TEXT`
-    fn read_bytes(&mut self, alloc: Global, line: &mut Line<'_>) -> Result<(), Problem> {
-        self.may_have_strings()?;
-        let text = line.text(alloc)?;
-        line.end()?;
-        self.form.strings.extend_from_slice(&text)?;
-        Ok(())
-    }
-
     // That no file and no entry was read yet.
-    fn may_have_strings(&mut self) -> Result<(), Problem> {
+    #[tactic(auto, unfolding(crate::specs::Said::early))]
+    fn may_have_strings(&mut self) -> Result<(), Problem>
+        requires { IsWhole self.old }
+        ensures says { TellsOf (λ _. reading_said self.new) result (early (reading_said self.old)) }
+        ensures whole { IsWhole self.new }
+    {
         if self.has_more {
             return Err(Problem::Wrong(Wrong::LateStrings));
         }
@@ -120,28 +192,70 @@ impl Reading {
         Ok(())
     }
 
+    // `string TEXT`
+    #[tactic(auto, unfolding(crate::specs::Said::read_string))]
+    fn read_string(&mut self, alloc: Global, line: &mut Line<'_>) -> Result<(), Problem>
+        requires { IsWhole self.old }
+        ensures says { TellsOf (λ _. reading_said self.new) result
+            (read_string (reading_said self.old) line.old.rest.now) }
+        ensures whole { IsWhole self.new }
+    {
+        self.may_have_strings()?;
+        let text = line.text(alloc)?;
+        line.over()?;
+        self.put(alloc, &text)?;
+        Ok(())
+    }
+
+    // `bytes TEXT`
+    #[tactic(auto, unfolding(crate::specs::Said::read_bytes))]
+    fn read_bytes(&mut self, alloc: Global, line: &mut Line<'_>) -> Result<(), Problem>
+        requires { IsWhole self.old }
+        ensures says { TellsOf (λ _. reading_said self.new) result
+            (read_bytes (reading_said self.old) line.old.rest.now) }
+        ensures whole { IsWhole self.new }
+    {
+        self.may_have_strings()?;
+        let text = line.text(alloc)?;
+        line.over()?;
+        self.form.strings.extend_from_slice(&text)?;
+        Ok(())
+    }
+
     // Where no line of strings stands, the table begins with a zero byte.
-    fn end_strings(&mut self, alloc: Global) -> Result<(), Problem> {
-        self.has_more = true;
+    #[tactic(auto, unfolding(crate::specs::Said::with_table))]
+    fn end_strings(&mut self, alloc: Global) -> Result<(), Problem>
+        requires { IsWhole self.old }
+        ensures says { TellsOf (λ _. reading_said self.new) result (with_table (reading_said self.old)) }
+        ensures whole { IsWhole self.new }
+    {
         if self.has_strings {
+            self.has_more = true;
             return Ok(());
         }
-        self.has_strings = true;
         self.put(alloc, b"".as_slice())?;
+        self.has_strings = true;
+        self.has_more = true;
         Ok(())
     }
 
     // `file STRING STRING`
+    #[tactic(auto, unfolding(crate::specs::Said::read_file))]
     fn read_file(
         &mut self,
         alloc: Global,
         number: usize,
         line: &mut Line<'_>,
-    ) -> Result<(), Problem> {
+    ) -> Result<(), Problem>
+        requires { IsWhole self.old }
+        ensures says { TellsOf (λ _. reading_said self.new) result
+            (read_file number (reading_said self.old) line.old.rest.now) }
+        ensures whole { IsWhole self.new }
+    {
         self.end_strings(alloc)?;
         let directory = self.string(alloc, line)?;
         let filename = self.string(alloc, line)?;
-        line.end()?;
+        line.over()?;
         add(
             &mut self.form.files,
             FileInfo {
@@ -154,22 +268,27 @@ impl Reading {
     }
 
     // `entry ADDRESS SIZE STRING`
+    #[tactic(auto, using(crate::proofs::Places::entry_more), unfolding(crate::specs::Said::read_entry, crate::specs::Said::is_unread))]
     fn read_entry(
         &mut self,
         alloc: Global,
         number: usize,
         line: &mut Line<'_>,
-    ) -> Result<(), Problem> {
+    ) -> Result<(), Problem>
+        requires { IsWhole self.old }
+        ensures says { TellsOf (λ _. reading_said self.new) result
+            (read_entry number (reading_said self.old) line.old.rest.now) }
+        ensures whole { OnOk result (IsWhole self.new) }
+    {
         self.end_strings(alloc)?;
         let addr = Address(line.number(u64::MAX)?);
-        let unread = *line;
-        if line.word() == Some(b"?5".as_slice()) {
+        let mut ahead = *line;
+        if takes(&mut ahead, b"?5".as_slice()) {
             return Err(Problem::Wrong(Wrong::UnreadEntry));
         }
-        *line = unread;
         let size = line.short_number()?;
         let name = self.string(alloc, line)?;
-        line.end()?;
+        line.over()?;
         let first = self.form.items.len();
         let entry = FormEntry {
             addr,
@@ -184,18 +303,24 @@ impl Reading {
     }
 
     // `TYPE HEX`
+    #[tactic(auto, unfolding(crate::specs::Said::read_item))]
     fn read_item(
         &mut self,
         alloc: Global,
         number: usize,
         line: &mut Line<'_>,
-    ) -> Result<(), Problem> {
+    ) -> Result<(), Problem>
+        requires { IsWhole self.old }
+        ensures says { TellsOf (λ _. reading_said self.new) result
+            (read_item number (reading_said self.old) line.old.rest.now) }
+        ensures whole { OnOk result (IsWhole self.new) }
+    {
         let Some(entry) = self.form.entries.last_mut() else {
             return Err(Problem::Wrong(Wrong::NoEntry));
         };
         let kind = line.short_number()?;
         let bytes = line.hex(alloc)?;
-        line.end()?;
+        line.over()?;
         let first = self.form.bytes.len();
         self.form.bytes.extend_from_slice(&bytes)?;
         let end = self.form.bytes.len();
@@ -211,82 +336,108 @@ impl Reading {
     }
 
     // `end`
-    fn read_end(&mut self, line: &mut Line<'_>) -> Result<(), Problem> {
-        self.is_ended = true;
-        line.end()
+    #[tactic(auto, unfolding(crate::specs::Said::read_end))]
+    fn read_end(&mut self, line: &mut Line<'_>) -> Result<(), Problem>
+        requires { IsWhole self.old }
+        ensures says { TellsOf (λ _. reading_said self.new) result
+            (read_end (reading_said self.old) line.old.rest.now) }
+        ensures whole { IsWhole self.new }
+    {
+        line.over()?;
+        self.stage = Stage::Behind;
+        Ok(())
     }
 
     // `gsym 1`
-    fn read_start(&mut self, line: &mut Line<'_>) -> Result<(), Problem> {
-        if line.word() != Some(b"gsym".as_slice()) || line.word() != Some(b"1".as_slice()) {
+    #[tactic(auto, unfolding(crate::specs::Said::read_start))]
+    fn read_start(&mut self, line: &mut Line<'_>) -> Result<(), Problem>
+        requires { IsWhole self.old }
+        ensures says { TellsOf (λ _. reading_said self.new) result
+            (read_start (reading_said self.old) line.old.rest.now) }
+        ensures whole { IsWhole self.new }
+    {
+        if !takes(line, b"gsym".as_slice()) || !takes(line, b"1".as_slice()) {
             return Err(Problem::Wrong(Wrong::Start));
         }
-        self.is_started = true;
-        line.end()
+        line.over()?;
+        self.stage = Stage::Within;
+        Ok(())
     }
 
     // A line that says something, which may be an item where it is indented.
-    fn read_words(
-        &mut self,
-        alloc: Global,
-        number: usize,
-        is_indented: bool,
-        line: &mut Line<'_>,
-    ) -> Result<(), Problem> {
-        let start = *line;
-        match line.word() {
-            Some(b"string") => self.read_string(alloc, line),
-            Some(b"bytes") => self.read_bytes(alloc, line),
-            Some(b"file") => self.read_file(alloc, number, line),
-            Some(b"entry") => self.read_entry(alloc, number, line),
-            Some(b"end") => self.read_end(line),
-            _ if is_indented => {
-                *line = start;
-                self.read_item(alloc, number, line)
-            }
-            _ => Err(Problem::Wrong(Wrong::Word)),
+    #[tactic(auto, using(crate::proofs::LinesSaid::words))]
+    fn read_words(&mut self, alloc: Global, number: usize, start: Line<'_>) -> Result<(), Problem>
+        requires { IsWhole self.old }
+        ensures says { TellsOf (λ _. reading_said self.new) result
+            (read_words number (reading_said self.old) start.entry.rest.now) }
+        ensures whole { OnOk result (IsWhole self.new) }
+    {
+        let mut line = start;
+        let word = line.word();
+        if is_word(word, b"string".as_slice()) {
+            self.read_string(alloc, &mut line)
+        } else if is_word(word, b"bytes".as_slice()) {
+            self.read_bytes(alloc, &mut line)
+        } else if is_word(word, b"file".as_slice()) {
+            self.read_file(alloc, number, &mut line)
+        } else if is_word(word, b"entry".as_slice()) {
+            self.read_entry(alloc, number, &mut line)
+        } else if is_word(word, b"end".as_slice()) {
+            self.read_end(&mut line)
+        } else if is_indented(start.rest) {
+            line = start;
+            self.read_item(alloc, number, &mut line)
+        } else {
+            Err(Problem::Wrong(Wrong::Word))
         }
     }
 
     // A line, with its number.
-    fn read_line(&mut self, alloc: Global, number: usize, bytes: &[u8]) -> Result<(), Problem> {
+    #[tactic(auto, unfolding(crate::specs::Said::line_said))]
+    fn read_line(&mut self, alloc: Global, number: usize, bytes: &[u8]) -> Result<(), Problem>
+        requires { IsWhole self.old }
+        ensures says { TellsOf (λ _. reading_said self.new) result
+            (line_said number (reading_said self.old) bytes.now) }
+        ensures whole { OnOk result (IsWhole self.new) }
+    {
         let mut line = Line { rest: bytes };
-        if line.is_end() {
+        if line.is_over() {
             return Ok(());
         }
-        if !self.is_started {
-            return self.read_start(&mut line);
+        match self.stage {
+            Stage::Before => self.read_start(&mut line),
+            Stage::Within => self.read_words(alloc, number, line),
+            Stage::Behind => Err(Problem::Wrong(Wrong::Behind)),
         }
-        if self.is_ended {
-            return Err(Problem::Wrong(Wrong::Behind));
-        }
-        let first = bytes.iter().find(|byte| **byte != b'\r');
-        let is_indented = matches!(first, Some(b' ' | b'\t'));
-        self.read_words(alloc, number, is_indented, &mut line)
     }
 
     // All lines of a text; the number of the first wrong one.
     fn read_lines(&mut self, alloc: Global, text: &[u8]) -> Result<(), Unread>
-        ensures { IfErr result IsCounted }
+        requires { IsWhole self.old }
+        ensures says { TellsLines result (reading_said self.new)
+            (lines_said 1 (reading_said self.old) (slice_split is_newline text.now)) }
+        ensures whole { OnOk result (IsWhole self.new) }
+        ensures counted { IfErr result IsCounted }
     {
         for (index, line) in text.split(|byte| *byte == b'\n').enumerate() {
             let number = index.saturating_add(1);
-            match self.read_line(alloc, number, line) {
-                Ok(()) => {}
-                Err(Problem::Memory) => return Err(Unread::Memory),
-                Err(Problem::Wrong(wrong)) => return Err(Unread::Line(number, wrong)),
+            if let Err(problem) = self.read_line(alloc, number, line) {
+                return Err(unread(number, problem));
             }
         }
         Ok(())
     }
 }
 
-// How many lines a text has.
-fn line_count(text: &[u8]) -> usize {
+// The line behind the last of a text.
+fn line_behind(text: &[u8]) -> usize
+    ensures { result ≡ line_count text.now + 1 }
+{
     let ended = text.iter().filter(|byte| **byte == b'\n').count();
-    match text.last() {
-        Some(last) if *last != b'\n' => ended.saturating_add(1),
-        _ => ended,
+    if ends_in(text, b'\n') {
+        ended.saturating_add(1)
+    } else {
+        ended.saturating_add(2)
     }
 }
 
@@ -295,8 +446,11 @@ fn line_count(text: &[u8]) -> usize {
 /// # Errors
 ///
 /// There is no memory, or a line is wrong: the first, with its number.
+#[tactic(auto, unfolding(crate::specs::Said::text_said))]
 pub fn parse(alloc: Global, text: &[u8]) -> Result<Form, Unread>
-    ensures { IfErr result IsCounted }
+    // What the lines say, or the first wrong one with its number.
+    ensures exact { ReadAs result (text_said text.now) }
+    ensures counted { IfErr result IsCounted }
 {
     let mut reading = Reading {
         form: Form {
@@ -308,19 +462,15 @@ pub fn parse(alloc: Global, text: &[u8]) -> Result<Form, Unread>
             strings: Vec::new(alloc),
         },
         offsets: BTreeMap::new(alloc),
-        is_started: false,
+        stage: Stage::Before,
         has_strings: false,
         has_more: false,
-        is_ended: false,
     };
     reading.read_lines(alloc, text)?;
-    if !reading.is_ended {
-        let wrong = if reading.is_started {
-            Wrong::Unended
-        } else {
-            Wrong::Start
-        };
-        return Err(Unread::Line(line_count(text).saturating_add(1), wrong));
+    match reading.stage {
+        Stage::Before => return Err(Unread::Line(line_behind(text), Wrong::Start)),
+        Stage::Within => return Err(Unread::Line(line_behind(text), Wrong::Unended)),
+        Stage::Behind => {}
     }
     match reading.end_strings(alloc) {
         Ok(()) => Ok(reading.form),

@@ -1,6 +1,6 @@
 //! Why a text is none of a file (RULES, "A file as text").
 ghost use Rattle.std.specs.Prelude.{◌≡◌};
-ghost use Rattle.gsym_form.specs.declared.wrong.Problem.TheVariants.{Memory};
+ghost use Rattle.gsym_form.specs.declared.wrong.Problem.TheVariants.{Memory, Wrong};
 
 use std::alloc::AllocError;
 use thiserror::Error;
@@ -74,6 +74,8 @@ impl From<AllocError> for Problem {
 }
 
 impl From<Wrong> for Problem {
+    ghost from_gives = { λ wrong problem. problem ≡ Wrong wrong };
+
     fn from(wrong: Wrong) -> Problem {
         Problem::Wrong(wrong)
     }

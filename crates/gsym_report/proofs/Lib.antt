@@ -1,4 +1,3 @@
-pub mod Fronts
 pub mod LineTexts
 pub mod Addresses
 pub mod Plain

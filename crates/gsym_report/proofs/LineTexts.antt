@@ -12,15 +12,16 @@ use Rattle.std.specs.Int.{from_bool}
 use Rattle.std.proofs.lemmas.List.Sums.{sum_by-cons}
 use Rattle.std.proofs.Common.{codes, Option, Ok}
 use Rattle.std.specs.Io.KnownBytes.{Appends}
-use Rattle.gsym_report.specs.Writing.{AppendsFront}
-use Rattle.gsym_report.proofs.Fronts.{Leads, leads_on, leads_cut, leads_end}
+use Rattle.gsym_output.specs.Writing.{AppendsFront}
+use Rattle.gsym_output.proofs.Fronts.{Leads, leads_on, leads_cut, leads_end}
 use Rattle.gsym_types.specs.declared.Address.{Address}
 use Rattle.gsym_types.specs.declared.Answer.{Answer}
 use Rattle.gsym_types.specs.declared.Frame.{Frame}
 use Rattle.gsym.specs.CallOrder.{calls_in_order}
 use Rattle.gsym_report.specs.Report.{said_of}
 use Rattle.gsym.specs.declared.chain.Call.{Call}
-use Rattle.gsym_report.specs.Report.{ended, text_of, line_of, lines_of, shown_name, name_in, lookup_for, is_refused}
+use Rattle.gsym_output.specs.Lines.{ended, text_of}
+use Rattle.gsym_report.specs.Report.{line_of, lines_of, shown_name, name_in, lookup_for, is_refused}
 use Rattle.gsym_report.specs.Report.{is_control, plain_len}
 
 -- the text of the addresses from one on, which has this number

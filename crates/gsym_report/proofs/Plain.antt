@@ -18,7 +18,8 @@ use Rattle.gsym.specs.CallOrder.{calls_in_order, record_call, symbol_call}
 use Rattle.gsym_report.specs.Laws.{IsPlain}
 use Rattle.gsym_report.specs.Report.{is_control, shown_byte, shown_name, name_in, refusal_said, said_of, line_of}
 use Rattle.gsym_report.specs.Report.{lines_of}
-use Rattle.gsym_report.specs.Report.{lookup_for, report_lines, report_of, text_of, ended}
+use Rattle.gsym_output.specs.Lines.{text_of, ended}
+use Rattle.gsym_report.specs.Report.{lookup_for, report_lines, report_of}
 
 -- ---- bytes
 

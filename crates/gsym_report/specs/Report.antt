@@ -12,6 +12,7 @@ use Rattle.gsym_strtab.specs.Strings.{part_of}
 use Rattle.gsym_resolver.specs.Lookup.{LookedUp, lookup_of, all_options}
 use Rattle.gsym.specs.declared.chain.Call.{Call}
 use Rattle.gsym.specs.CallOrder.{calls_in_order}
+use Rattle.gsym_output.specs.Lines.{text_of}
 
 -- ---- what is looked up
 
@@ -67,12 +68,6 @@ abbrev pub report_lines : List ℕ → List Address → List (List ℕ)
 report_lines file addresses = flat_map (λ p. lines_of file p.0 p.1) (enumerate_from 0 addresses)
 
 -- ---- the text
-
-abbrev pub ended : List ℕ → List ℕ
-ended line = line ++ codes "\n"
-
-abbrev pub text_of : List (List ℕ) → List ℕ
-text_of lines = flat_map ended lines
 
 abbrev pub report_of : List ℕ → List Address → List ℕ
 report_of file addresses = text_of (report_lines file addresses)

@@ -3,7 +3,8 @@
 ghost use Rattle.std.specs.Prelude.{◌≡◌, ◌≢◌, ◌<◌, ◌-◌, ◌++◌, ◌∷◌, [], ℕ, List, All, map, codes, length};
 ghost use Rattle.gsym_types.specs.declared.Address.{Address};
 ghost use Rattle.gsym_resolver.specs.Lookup.{lookup_of, all_options};
-ghost use Rattle.gsym_report.specs.Report.{said_of, line_of, lines_of, report_lines, report_of, text_of};
+ghost use Rattle.gsym_output.specs.Lines.{text_of};
+ghost use Rattle.gsym_report.specs.Report.{said_of, line_of, lines_of, report_lines, report_of};
 ghost use Rattle.gsym_report.specs.Laws.{IsPlain, address};
 ghost use Rattle.gsym_report.specs.Examples.{ReportExamples};
 

@@ -5,7 +5,6 @@
 //!     lines     the lines of an address, and all of them
 //!     input     file and addresses in one input
 //!     running   from a reader to a writer
-//!     writing   writing a text, and what a failure leaves
 //!     laws      what the definitions say of every report
 #![tactic(auto)]
 
@@ -14,7 +13,6 @@ mod laws;
 mod lines;
 mod lookups;
 mod running;
-mod writing;
 
 pub use gsym::Address;
 pub use input::{MOST_ADDRESSES, Question, addresses_of, question_of};

@@ -5,13 +5,14 @@ ghost use Rattle.std.specs.Io.KnownBytes.{Appends};
 ghost use Rattle.gsym_resolver.specs.Lookup.{looked_up};
 ghost use Rattle.gsym.specs.CallOrder.{calls_left};
 ghost use Rattle.gsym.specs.Lookups.{records_in};
-ghost use Rattle.gsym_report.specs.Report.{is_control, plain_len, shown_name, name_in, line_of, ended, lines_of};
-ghost use Rattle.gsym_report.specs.Report.{lookup_for, lookups_of, is_refused, refusal_said, report_of, text_of};
-ghost use Rattle.gsym_report.specs.Writing.{AppendsFront, Writes};
+ghost use Rattle.gsym_output.specs.Lines.{ended, text_of};
+ghost use Rattle.gsym_output.specs.Writing.{AppendsFront, Writes};
+ghost use Rattle.gsym_report.specs.Report.{is_control, plain_len, shown_name, name_in, line_of, lines_of};
+ghost use Rattle.gsym_report.specs.Report.{lookup_for, lookups_of, is_refused, refusal_said, report_of};
 
 use crate::lookups::lookup_for;
-use crate::writing::write_text;
 use gsym::{Address, CallChain, Frame, MAX_FRAMES, Refusal};
+use gsym_output::write_text;
 use itoa::Buffer;
 use std::io::{self, Write};
 
@@ -30,7 +31,7 @@ fn plain_len(name: &[u8]) -> usize
 }
 
 // A name, with a question mark for each control byte.
-#[tactic(auto, using(crate::proofs::Fronts::leads_start, crate::proofs::Fronts::leads_end))]
+#[tactic(auto, using(gsym_output::proofs::Fronts::leads_start, gsym_output::proofs::Fronts::leads_end))]
 fn write_name<W: Write>(out: &mut W, name: &[u8]) -> io::Result<()>
     ensures { Writes (W.contents out.old) (W.contents out.new) result (shown_name name.now) }
 {
@@ -48,7 +49,7 @@ fn write_name<W: Write>(out: &mut W, name: &[u8]) -> io::Result<()>
 }
 
 // The number of an address, and a blank.
-#[tactic(auto, using(crate::proofs::Fronts::writes_then, crate::proofs::Fronts::front_of))]
+#[tactic(auto, using(gsym_output::proofs::Fronts::writes_then, gsym_output::proofs::Fronts::front_of))]
 fn write_index<W: Write>(out: &mut W, index: usize) -> io::Result<()>
     ensures { Writes (W.contents out.old) (W.contents out.new) result (decimal index ++ codes " ") }
 {
@@ -58,7 +59,7 @@ fn write_index<W: Write>(out: &mut W, index: usize) -> io::Result<()>
 }
 
 // The line of a name.
-#[tactic(auto, using(crate::proofs::Fronts::writes_then, crate::proofs::Fronts::front_of))]
+#[tactic(auto, using(gsym_output::proofs::Fronts::writes_then, gsym_output::proofs::Fronts::front_of))]
 fn write_line<W: Write>(out: &mut W, index: usize, name: &[u8]) -> io::Result<()>
     ensures { Writes (W.contents out.old) (W.contents out.new) result
         (ended (line_of index (shown_name name.now))) }
@@ -69,7 +70,7 @@ fn write_line<W: Write>(out: &mut W, index: usize, name: &[u8]) -> io::Result<()
 }
 
 // A question mark, and the number of a refusal.
-#[tactic(auto, using(crate::proofs::Fronts::writes_then, crate::proofs::Fronts::front_of))]
+#[tactic(auto, using(gsym_output::proofs::Fronts::writes_then, gsym_output::proofs::Fronts::front_of))]
 fn write_number<W: Write>(out: &mut W, refusal: Refusal) -> io::Result<()>
     ensures { Writes (W.contents out.old) (W.contents out.new) result (refusal_said refusal) }
 {
@@ -79,7 +80,7 @@ fn write_number<W: Write>(out: &mut W, refusal: Refusal) -> io::Result<()>
 }
 
 // The line of a refusal.
-#[tactic(auto, using(crate::proofs::Fronts::writes_then, crate::proofs::Fronts::front_of))]
+#[tactic(auto, using(gsym_output::proofs::Fronts::writes_then, gsym_output::proofs::Fronts::front_of))]
 fn write_refusal<W: Write>(out: &mut W, index: usize, refusal: Refusal) -> io::Result<()>
     ensures { Writes (W.contents out.old) (W.contents out.new) result
         (ended (line_of index (refusal_said refusal))) }
@@ -90,7 +91,7 @@ fn write_refusal<W: Write>(out: &mut W, index: usize, refusal: Refusal) -> io::R
 }
 
 // The lines of the calls of an answer.
-#[tactic(auto, using(crate::proofs::Fronts::leads_start, crate::proofs::Fronts::leads_end))]
+#[tactic(auto, using(gsym_output::proofs::Fronts::leads_start, gsym_output::proofs::Fronts::leads_end))]
 fn write_calls<W: Write>(
     out: &mut W,
     file: &[u8],
@@ -135,7 +136,7 @@ fn write_address<W: Write>(
 /// (RULES, "A report"); and answers how many of them were refused. The file may be any bytes. Where the writer fails,
 /// its error is answered, and a front of the report was written. It allocates nothing, and writes in small pieces, so
 /// that a file or a pipe wants a `BufWriter` before it.
-#[tactic(auto, using(crate::proofs::Fronts::leads_start))]
+#[tactic(auto, using(gsym_output::proofs::Fronts::leads_start))]
 pub fn write_report<W: Write>(file: &[u8], addresses: &[Address], out: &mut W) -> io::Result<usize>
     // The report of all addresses is written, in their order, and nothing else.
     ensures written { OnOk result (Appends (W.contents out.old) (W.contents out.new)

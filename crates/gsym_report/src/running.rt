@@ -2,11 +2,11 @@
 ghost use Rattle.std.specs.Prelude.{◌≡◌, OnOk, OnErr, IfSome, IfOk};
 ghost use Rattle.std.specs.Io.KnownBytes.{Appends, Consumes};
 ghost use Rattle.gsym_report.specs.Input.{output_of};
-ghost use Rattle.gsym_report.specs.Writing.{AppendsFront, Writes};
+ghost use Rattle.gsym_output.specs.Writing.{AppendsFront, Writes};
 
 use crate::input::{MOST_ADDRESSES, question_of};
 use crate::lines::write_report;
-use crate::writing::write_text;
+use gsym_output::write_text;
 use std::alloc::Global;
 use std::io::{self, Read, Write};
 

@@ -3,9 +3,10 @@
 use Rattle.std.proofs.Common.{take, subst}
 use Rattle.std.specs.Io.KnownBytes.{Appends}
 use Rattle.gsym.specs.CallOrder.{calls_left}
-use Rattle.gsym_report.specs.Report.{lines_of, text_of}
-use Rattle.gsym_report.specs.Writing.{AppendsFront}
-use Rattle.gsym_report.proofs.Fronts.{writes_err}
+use Rattle.gsym_output.specs.Lines.{text_of}
+use Rattle.gsym_report.specs.Report.{lines_of}
+use Rattle.gsym_output.specs.Writing.{AppendsFront}
+use Rattle.gsym_output.proofs.Fronts.{writes_err}
 use Rattle.gsym_report.proofs.LineTexts.{found_text}
 use Rattle.gsym_report.proofs.lines.write_address.Goals as goal
 

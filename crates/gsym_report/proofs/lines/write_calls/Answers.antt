@@ -4,8 +4,9 @@ use Rattle.std.proofs.Common.{ap, List, ℕ}
 use Rattle.gsym.specs.declared.chain.Call.{Call}
 use Rattle.std.specs.List.{flat_map}
 use Rattle.gsym.specs.CallOrder.{calls_left}
-use Rattle.gsym_report.specs.Report.{ended, line_of, shown_name, name_in}
-use Rattle.gsym_report.proofs.Fronts.{leads_on, leads_cut, writes_err}
+use Rattle.gsym_output.specs.Lines.{ended}
+use Rattle.gsym_report.specs.Report.{line_of, shown_name, name_in}
+use Rattle.gsym_output.proofs.Fronts.{leads_on, leads_cut, writes_err}
 use Rattle.gsym_report.proofs.lines.write_calls.Goals as goal
 
 pub loop-call-preserved : goal.loop-call-preserved

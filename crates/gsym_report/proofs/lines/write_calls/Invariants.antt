@@ -1,8 +1,9 @@
 -- Whoever writes the lines of the calls that are left has written those of all.
 use Rattle.std.specs.List.{flat_map}
 use Rattle.gsym.specs.CallOrder.{calls_left}
-use Rattle.gsym_report.specs.Report.{ended, line_of, shown_name, name_in}
-use Rattle.gsym_report.proofs.Fronts.{Leads}
+use Rattle.gsym_output.specs.Lines.{ended}
+use Rattle.gsym_report.specs.Report.{line_of, shown_name, name_in}
+use Rattle.gsym_output.proofs.Fronts.{Leads}
 use Rattle.gsym_report.proofs.lines.write_calls.Given as goal
 
 abbrev pub invariant-loop-call : goal.invariant-loop-call

@@ -1,7 +1,7 @@
 -- `gsym_report::lines::write_name`: up to a control byte, and from there on.
 -- Assumes nothing.
 use Rattle.gsym_report.specs.Report.{shown_name}
-use Rattle.gsym_report.proofs.Fronts.{writes_err}
+use Rattle.gsym_output.proofs.Fronts.{writes_err}
 use Rattle.gsym_report.proofs.LineTexts.{name_plain, name_cut, name_mark, name_mark_cut, name_end}
 use Rattle.gsym_report.proofs.lines.write_name.Goals as goal
 

@@ -1,7 +1,7 @@
 -- Whoever writes the rest of the name has written all of it.
 use Rattle.std.proofs.Common.{length}
 use Rattle.gsym_report.specs.Report.{shown_name}
-use Rattle.gsym_report.proofs.Fronts.{Leads}
+use Rattle.gsym_output.proofs.Fronts.{Leads}
 use Rattle.gsym_report.proofs.lines.write_name.Given as goal
 
 abbrev pub invariant-loop-rest : goal.invariant-loop-rest

@@ -2,7 +2,7 @@
 -- Assumes nothing.
 use Rattle.std.proofs.Common.{codes, decimal}
 use Rattle.gsym_types.specs.Refusal.{number_of}
-use Rattle.gsym_report.proofs.Fronts.{writes_then}
+use Rattle.gsym_output.proofs.Fronts.{writes_then}
 use Rattle.gsym_report.proofs.lines.write_number.Goals as goal
 
 pub returns : goal.returns

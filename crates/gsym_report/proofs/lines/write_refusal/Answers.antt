@@ -3,7 +3,7 @@
 use Rattle.std.proofs.Common.{◌++◌, codes, decimal}
 use Rattle.std.proofs.KnownBytes.{Appends-trans}
 use Rattle.gsym_report.specs.Report.{refusal_said}
-use Rattle.gsym_report.proofs.Fronts.{front_of, front_then, writes_then, writes_err}
+use Rattle.gsym_output.proofs.Fronts.{front_of, front_then, writes_then, writes_err}
 use Rattle.gsym_report.proofs.lines.write_refusal.Goals as goal
 
 pub returns-in_err-write_number : goal.returns-in_err-write_number

@@ -3,7 +3,7 @@
 use Rattle.std.proofs.Common.{arith, ap, ◌∙◌}
 use Rattle.std.specs.Int.{from_bool}
 use Rattle.gsym_report.specs.Report.{report_of}
-use Rattle.gsym_report.proofs.Fronts.{leads_on, leads_cut, on_err}
+use Rattle.gsym_output.proofs.Fronts.{leads_on, leads_cut, on_err}
 use Rattle.gsym_report.proofs.LineTexts.{text-drop, counted-more, bool-most}
 use Rattle.gsym_report.proofs.lines.write_report.Goals as goal
 

@@ -1,7 +1,7 @@
 -- Whoever writes the lines of the addresses that are left has written those of all; and how many were refused so far.
 use Rattle.std.proofs.Common.{◌≡◌, ◌+◌, ◌≤◌, drop}
 use Rattle.gsym_report.specs.Report.{report_of}
-use Rattle.gsym_report.proofs.Fronts.{Leads}
+use Rattle.gsym_output.proofs.Fronts.{Leads}
 use Rattle.gsym_report.proofs.LineTexts.{text_from, refused_from}
 use Rattle.gsym_report.proofs.lines.write_report.Given as goal
 
