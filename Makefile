@@ -100,8 +100,8 @@ target/linked: FORCE
 	@mkdir -p target
 	@echo '$(abspath $(LIBGSYM))' | cmp -s - $@ || echo '$(abspath $(LIBGSYM))' >$@
 
-# what hosts may call and nothing else; -z text: it is fit to be shared, -z defs: nothing is missing, -z now: memcpy and
-# memset are bound when it is loaded, and not at a first call, on the stack of a signal handler
+# what hosts may call and nothing else; -z text: it is fit to be shared, -z defs: nothing is missing, -z now: memset is
+# bound when it is loaded, and not at a first call, on the stack of a signal handler
 libgsym.so.0: $(LIBGSYM) $(HEADER) host/gsym.map target/linked
 	$(CC) -shared $(LDFLAGS) -Wl,-soname,$(SONAME) -Wl,--version-script=host/gsym.map -Wl,-z,text,-z,defs,-z,now -o $@ \
 	    -Wl,--whole-archive $(LIBGSYM) -Wl,--no-whole-archive

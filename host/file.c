@@ -17,20 +17,30 @@
 /* the most that is read of what can't be mapped; man/gsym-addr2line.1 says it */
 #define MOST ((size_t)1 << 30)
 
-char *shown(const void *bytes, size_t len)
+void show(FILE *out, const void *bytes, size_t len)
 {
-    size_t room = (size_t)gsym_shown_text(bytes, len, NULL, 0);
-    char *text = malloc(room + 1);
-    if (text == NULL)
-        abort();
-    gsym_shown_text(bytes, len, (uint8_t *)text, room);
-    text[room] = 0;
-    return text;
+    const uint8_t *at = bytes;
+    uint8_t text[1024];
+    while (len > 0) {
+        size_t piece = len;
+        if (piece > sizeof text) {
+            piece = sizeof text;
+            /* no character is parted: one that goes on behind the piece starts at most three bytes before its end */
+            for (size_t back = 1; back <= 3 && (at[piece] & 0xc0) == 0x80; back++)
+                piece = sizeof text - back;
+        }
+        /* what is shown of a character has no more bytes than the character */
+        fwrite(text, 1, (size_t)gsym_shown_text(at, piece, text, sizeof text), out);
+        at += piece;
+        len -= piece;
+    }
 }
 
 _Noreturn void trouble(const char *what, const char *why)
 {
-    fprintf(stderr, "gsym-addr2line: %s: %s\n", shown(what, strlen(what)), why);
+    fputs("gsym-addr2line: ", stderr);
+    show(stderr, what, strlen(what));
+    fprintf(stderr, ": %s\n", why);
     exit(TROUBLE);
 }
 
@@ -38,8 +48,9 @@ static _Noreturn void refused(const char *name, uint32_t number)
 {
     uint8_t why[128];
     uint64_t len = gsym_refusal_text(number, why, sizeof why);
-    fprintf(stderr, "gsym-addr2line: %s: refused: %u, %.*s\n", shown(name, strlen(name)), number,
-            (int)(len < sizeof why ? len : sizeof why), (const char *)why);
+    fputs("gsym-addr2line: ", stderr);
+    show(stderr, name, strlen(name));
+    fprintf(stderr, ": refused: %u, %.*s\n", number, (int)(len < sizeof why ? len : sizeof why), (const char *)why);
     exit(TROUBLE);
 }
 

@@ -5,6 +5,7 @@
 #include <stddef.h>
 #include <stdbool.h>
 #include <stdint.h>
+#include <stdio.h>
 
 enum { TROUBLE = 2 };
 
@@ -16,8 +17,8 @@ struct lent {
 /* Tells what was in trouble, a file or a word of the user's, and why, and ends with status 2. */
 _Noreturn void trouble(const char *what, const char *why);
 
-/* Any bytes as they may be shown on a terminal. */
-char *shown(const void *bytes, size_t len);
+/* Writes any bytes as they may be shown on a terminal, piece by piece: however many they are, it takes no memory. */
+void show(FILE *out, const void *bytes, size_t len);
 
 /* The bytes of a symbol file, whose header and tables read; anything else is told, and ends with status 2. */
 struct lent open_symbols(const char *name);

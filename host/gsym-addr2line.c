@@ -53,9 +53,9 @@ static bool resolve(const struct asked *asked, const void *word, size_t len)
             trouble("an answer", strerror(ENOMEM));
     }
     if (text.number == GSYM_NO_ADDRESS) {
-        char *told = shown(word, len);
-        fprintf(stderr, "gsym-addr2line: '%s' is no address\n", told);
-        free(told);
+        fputs("gsym-addr2line: '", stderr);
+        show(stderr, word, len);
+        fputs("' is no address\n", stderr);
     }
     fwrite(room, 1, (size_t)text.len, stdout);
     return text.number == GSYM_FOUND;
@@ -194,7 +194,9 @@ static _Noreturn void done(void)
 /* Says what was wrong in the options, and how they are. */
 static _Noreturn void misused(const char *why, const char *word)
 {
-    fprintf(stderr, "gsym-addr2line: %s '%s'\n", why, shown(word, strlen(word)));
+    fprintf(stderr, "gsym-addr2line: %s '", why);
+    show(stderr, word, strlen(word));
+    fputs("'\n", stderr);
     usage(stderr);
     exit(TROUBLE);
 }

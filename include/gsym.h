@@ -24,10 +24,10 @@
  * the same file too, each with a list of its own.
  *
  * Signal handlers: the calls are async-signal-safe. They take no lock, keep no state and touch no errno; all that the
- * library takes from elsewhere is memcpy and memset, which POSIX counts among the safe functions. Link the program with
- * -Wl,-z,now, as libgsym.so is linked: else the first call of a function, also of these two, may run the dynamic
- * linker, which takes stack of its own and may take a lock. gsym_check is safe too, and is not for a handler all the
- * same: a file that was made to be slow keeps it long.
+ * library takes from elsewhere is memset, which POSIX counts among the safe functions. Link the program with
+ * -Wl,-z,now, as libgsym.so is linked: else the first call of a function, also of memset, may run the dynamic linker,
+ * which takes stack of its own and may take a lock. gsym_check is safe too, and is not for a handler all the same: a
+ * file that was made to be slow keeps it long.
  *
  * Stack: a call needs GSYM_STACK bytes. A handler's own stack (sigaltstack) needs
  *     GSYM_STACK + sysconf(_SC_MINSIGSTKSZ) + what the handler's own frames and callees take

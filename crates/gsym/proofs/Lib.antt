@@ -1,6 +1,4 @@
 mod CallOrder
-mod Over
-mod Written
 mod Promised
 mod SingleBlock
 mod Named

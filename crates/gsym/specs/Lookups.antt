@@ -1,14 +1,14 @@
 -- What a lookup leaves in the list that is lent to it, and what it promises.
 -- Assumes nothing.
-use Rattle.std.specs.Prelude.{◌≡◌, ◌↔◌, ◌≤◌, ◌<◌, ◌⊎◌, ℕ, Bool, true, false, List, [], length, take, drop, All, Result}
-use Rattle.std.specs.Prelude.{Ok, Err, IsOk, IfOk, IfErr, OnErr}
+use Rattle.std.specs.Prelude.{◌≡◌, ◌↔◌, ◌≤◌, ◌<◌, ◌⊎◌, ℕ, true, false, List, length, take, drop, All, Result, IsOk}
+use Rattle.std.specs.Prelude.{IfOk, IfErr, OnErr}
 use Rattle.std.specs.Result.{IsErrOf}
 use Rattle.gsym_types.specs.declared.Address.{Address}
 use Rattle.gsym_types.specs.declared.Answer.{Answer}
 use Rattle.gsym_types.specs.declared.Frame.{Frame}
 use Rattle.gsym_types.specs.declared.Options.{Options}
 use Rattle.gsym_types.specs.declared.Refusal.{Refusal}
-use Rattle.gsym_types.specs.declared.Refusal.TheVariants.{UnreadLineHeader, TooManyFrames, TooWide}
+use Rattle.gsym_types.specs.declared.Refusal.TheVariants.{UnreadLineHeader, TooWide}
 use Rattle.gsym_types.specs.Refusal.{number_of}
 use Rattle.gsym_inline.specs.Block.{room_of}
 use Rattle.gsym_parser.specs.Entries.{covered_by}
@@ -17,21 +17,12 @@ use Rattle.gsym_resolver.specs.Met.{Met}
 use Rattle.gsym_resolver.specs.Answered.{Answered}
 use Rattle.gsym_resolver.specs.Blocks.{RefusedByBlock, RefusedByHeader, Listed}
 use Rattle.gsym.specs.Names.{IsNameIn}
+-- the records of an answer; a refusal has none
+pub use Rattle.gsym_resolver.specs.Lookup.{records_in}
 
 -- an answer with its records, which stand at the front of the list
 abbrev pub with_records : Answer → List Frame → LookedUp
 with_records a frames = record { answer = a; frames = take a.count frames }
-
--- the records of an answer; a refusal has none
-abbrev pub records_in : Result Answer Refusal → List Frame → List Frame
-records_in (Ok a) frames = take a.count frames
-records_in (Err r) frames = []
-
--- there were more frames than there was room for
-abbrev pub has_too_many : Result Answer Refusal → Bool
-has_too_many (Err TooManyFrames) = true
-has_too_many (Err r) = false
-has_too_many (Ok a) = false
 
 -- what `lookup` ensures, clause by clause, of a file, an address and options, what it returns, and the list before and
 -- after

@@ -1,5 +1,5 @@
 //! The frames of a single inline block, into a list that the caller lends (RULES, "Inline tree").
-ghost use Rattle.std.specs.Prelude.{◌≡◌, ◌↔◌, ◌≤◌, length, take, drop, IsOk, IfOk, OnErr, IsErrOf};
+ghost use Rattle.std.specs.Prelude.{◌≡◌, ◌↔◌, ◌≤◌, ◌++◌, length, take, drop, IsOk, IfOk, OnErr, IsErrOf};
 ghost use Rattle.gsym_types.specs.declared.Refusal.{Refusal};
 ghost use Rattle.gsym_inline.specs.Block.{block_of, room_of};
 ghost use Rattle.gsym_inline.specs.Reads.{Reads};
@@ -54,6 +54,22 @@ fn read_block(
     let mut listed = ArrayVec::new();
     gsym_inline::block_in(block, symbol, addr, frames.len(), &mut listed)?;
     let count = listed.len();
-    frames[..count].copy_from_slice(listed.as_slice());
+    copy_frames(listed.as_slice(), frames);
     Ok(count)
+}
+
+// Copies frames to the front of a list that has room for them. Field by field, and not by `copy_from_slice`: that calls
+// `memcpy`, which a host would have to bring along (DECISIONS, D58).
+fn copy_frames(listed: &[InlineFrame], frames: &mut [InlineFrame])
+    requires { length listed.now ≤ length frames.old }
+    ensures { frames.new ≡ listed.now ++ drop (length listed.now) frames.old }
+{
+    for i in 0..listed.len() {
+        let frame = listed[i];
+        frames[i] = InlineFrame {
+            name: frame.name,
+            call_file: frame.call_file,
+            call_line: frame.call_line,
+        };
+    }
 }

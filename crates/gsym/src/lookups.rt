@@ -1,21 +1,20 @@
 //! The symbol of an address, with all that is asked for, into a list that the caller lends (RULES, from "Header and
 //! tables" to "Putting the answer together").
-ghost use Rattle.std.specs.Prelude.{◌≡◌, ◌↔◌, ◌≤◌, ◌<◌, ◌⊎◌, false, true, min, length, take, drop, All, IsOk, IfOk};
+ghost use Rattle.std.specs.Prelude.{◌≡◌, ◌↔◌, ◌≤◌, ◌<◌, ◌⊎◌, false, true, length, take, drop, All, IsOk, IfOk};
 ghost use Rattle.std.specs.Prelude.{IfErr, OnErr, IsErrOf};
 ghost use Rattle.gsym_types.specs.declared.Refusal.{Refusal};
 ghost use Rattle.gsym_types.specs.declared.Refusal.TheVariants.{UnreadLineHeader, TooWide};
 ghost use Rattle.gsym_types.specs.Refusal.{number_of};
 ghost use Rattle.gsym_inline.specs.Block.{room_of};
 ghost use Rattle.gsym_parser.specs.Entries.{covered_by};
-ghost use Rattle.gsym_resolver.specs.Lookup.{lookup_of, looked_up, all_options};
+ghost use Rattle.gsym_resolver.specs.Lookup.{lookup_of, looked_up};
 ghost use Rattle.gsym_resolver.specs.Met.{Met};
 ghost use Rattle.gsym_resolver.specs.Answered.{Answered};
 ghost use Rattle.gsym_resolver.specs.Blocks.{RefusedByBlock, RefusedByHeader, Listed};
-ghost use Rattle.gsym.specs.Lookups.{records_in, with_records, has_too_many};
+ghost use Rattle.gsym.specs.Lookups.{records_in, with_records};
 ghost use Rattle.gsym.specs.Names.{IsNameIn};
 
-use arrayvec::ArrayVec;
-use gsym_types::{Address, Answer, Frame, MAX_FRAMES, Options, Refusal};
+use gsym_types::{Address, Answer, Frame, Options, Refusal};
 
 /// The symbol of an address with all that is asked for. Each call inlined there but the outermost, which gives the
 /// symbol its name, becomes a record, written over the first ones of `frames`. There is room for as many frames as the
@@ -89,54 +88,8 @@ fn lookup_by(
         ≡ lookup_of file.now addr options (room_of (length frames.old)) }
 {
     if options.code_info && options.inlining {
-        lookup_inlined(file, addr, frames)
+        gsym_resolver::lookup_over(file, addr, frames)
     } else {
         gsym_resolver::lookup_plain(file, addr, options.code_info)
     }
-}
-
-// How many frames a lookup has room for at first: most addresses have fewer.
-const FIRST_FRAMES: usize = 16;
-
-// A lookup with position and inlined calls. Most addresses have few frames, and a large list costs more to fill than
-// they cost to read; more room changes nothing but the refusal for too many frames.
-fn lookup_inlined(file: &[u8], addr: Address, frames: &mut [Frame]) -> Result<Answer, Refusal>
-    ensures stays { IfOk result (λ a. drop a.count frames.new ≡ drop a.count frames.old) }
-    ensures kept { OnErr result (frames.new ≡ frames.old) }
-    ensures length { length frames.new ≡ length frames.old }
-    ensures exact { looked_up result (records_in result frames.new)
-        ≡ lookup_of file.now addr all_options (room_of (length frames.old)) }
-{
-    let few = lookup_within::<FIRST_FRAMES>(file, addr, frames);
-    if !has_too_many(&few) {
-        return few;
-    }
-    lookup_within::<MAX_FRAMES>(file, addr, frames)
-}
-
-// Whether there were more frames than there was room for.
-fn has_too_many(answer: &Result<Answer, Refusal>) -> bool
-    ensures { result ≡ has_too_many answer.now }
-{
-    matches!(answer, Err(Refusal::TooManyFrames))
-}
-
-// A lookup with position and inlined calls, with room for N frames at most: 16 first, then 64.
-fn lookup_within<const N: usize>(
-    file: &[u8],
-    addr: Address,
-    frames: &mut [Frame],
-) -> Result<Answer, Refusal>
-    // It bounds a constant that each call names, which no type does.
-    requires { N ≤ 64 }
-    ensures stays { IfOk result (λ a. drop a.count frames.new ≡ drop a.count frames.old) }
-    ensures kept { OnErr result (frames.new ≡ frames.old) }
-    ensures length { length frames.new ≡ length frames.old }
-    ensures exact { looked_up result (records_in result frames.new)
-        ≡ lookup_of file.now addr all_options (room_of (min N (length frames.old))) }
-{
-    let mut records: ArrayVec<Frame, N> = ArrayVec::new();
-    let answer = gsym_resolver::lookup_in(file, addr, Options::ALL, frames.len(), &mut records)?;
-    frames[..records.len()].copy_from_slice(records.as_slice());
-    Ok(answer)
 }

@@ -33,3 +33,5 @@ pub mod CheckedSteps
 pub mod CheckedTrees
 pub mod FullBlocks
 pub mod CheckedFaults
+pub mod CallLines
+pub mod Counted

@@ -8,3 +8,5 @@ pub mod Runs
 pub mod Choice
 pub mod Reach
 pub mod Endings
+pub mod Modulo
+pub mod RowLines

@@ -17,6 +17,7 @@ ghost use Rattle.gsym_linetab.specs.Endings.{ending_of, LineInFull, LineStops, E
 use gsym_leb128::Cause;
 use gsym_types::{Address, FileIndex, LineNumber, Refusal};
 pub use laws::{cut_headers, left_and_gone_on_with, whole_table};
+pub use opcode::{addr_after, line_after, quotient, remainder};
 use opcode::{advance_line, advance_pc, range_of, set_file, special};
 use quick::{Plan, first_maker, quick_rows};
 
@@ -195,7 +196,7 @@ pub fn row_for(
         };
         return quick_rows(ops, first, addr, plan);
     }
-    row_by_op(header, ops, None, start, addr)
+    row_by_op(header, ops, None, first, addr)
 }
 
 // The same opcode by opcode, at any range, and also where rows were made before `start`: `last` is the last of them.

@@ -1,5 +1,5 @@
 //! What each opcode does to a row (RULES, "Line table"). An operand that doesn't read stops the program.
-ghost use Rattle.std.specs.Prelude.{◌≡◌, ◌≢◌, pos, int_div, int_rem};
+ghost use Rattle.std.specs.Prelude.{◌≡◌, pos, int_div, int_rem};
 ghost use Rattle.gsym_linetab.specs.Machine.{set_file, advance_pc, advance_line, line_after, addr_after, range_of};
 ghost use Rattle.gsym_linetab.specs.Machine.{special_of};
 
@@ -45,16 +45,16 @@ pub(crate) fn advance_line(ops: &[u8], row: LineTableRow, at: usize) -> Result<L
     Ok(LineState { row, at: next })
 }
 
-// The line moved by a signed change, modulo 2^32.
-fn line_after(line: LineNumber, change: i64) -> LineNumber
+/// The line moved by a signed change, modulo 2^32 (RULES, "Line table"). Of the change the low 32 bits count alone.
+pub fn line_after(line: LineNumber, change: i64) -> LineNumber
     ensures { result ≡ line_after line change }
 {
     let low = (change.cast_unsigned() % 0x1_0000_0000) as u32;
     LineNumber(line.0.wrapping_add(low))
 }
 
-// The address moved by a signed number of bytes, modulo 2^64.
-fn addr_after(addr: Address, steps: i64) -> Address
+/// The address moved by a signed number of bytes, modulo 2^64 (RULES, "Line table"). A negative number moves it back.
+pub fn addr_after(addr: Address, steps: i64) -> Address
     ensures { result ≡ addr_after addr steps }
 {
     Address(addr.0.wrapping_add_signed(steps))
@@ -69,24 +69,30 @@ pub(crate) fn range_of(header: LineTableHeader) -> i64
     span.wrapping_add(1)
 }
 
-// How far the opcode `a` above the first special one moves the address: rounded toward zero. Its caller has just asked
-// whether the range is 0, and nothing divides by 0.
+/// How far the opcode `a` above the first special one moves the address, in bytes: `a` divided by the range, rounded
+/// toward zero, so that a negative range gives a negative quotient or 0 (RULES, "Line table"). At a range of 0, where
+/// the program stops before it divides, it is 0.
 #[tactic(auto, using(crate::proofs::Numbers::quotient_is))]
-fn quotient(a: u8, range: i64) -> i64
-    requires { range ≢ pos 0 }
+pub fn quotient(a: u8, range: i64) -> i64
     ensures { result ≡ int_div (pos a) range }
 {
+    if range == 0 {
+        return 0;
+    }
     let a = i64::from(a);
     a / range
 }
 
-// How far it moves the line beyond min: what that quotient leaves. Asked as there, of a range that is not 0.
+/// How far it moves the line beyond min: what that quotient leaves, never negative, whatever the sign of the range
+/// (RULES, "Line table"). At a range of 0 all of `a` is left.
 #[tactic(auto, using(crate::proofs::Numbers::remainder_is))]
-fn remainder(a: u8, range: i64) -> i64
-    requires { range ≢ pos 0 }
+pub fn remainder(a: u8, range: i64) -> i64
     ensures { result ≡ int_rem (pos a) range }
 {
     let a = i64::from(a);
+    if range == 0 {
+        return a;
+    }
     a % range
 }
 

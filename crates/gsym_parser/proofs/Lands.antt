@@ -3,7 +3,7 @@
 -- Assumes nothing.
 use Rattle.std.proofs.Common.{Option, Some, None, ◌≡◌, ℕ, zero, suc, ◌+◌, ◌-◌, ◌<◌, ◌≤◌, Bool, true, false}
 use Rattle.std.proofs.Common.{List, [], ◌∷◌, map, length, get_or, sym, refl, ap, ◌∙◌, inl, inr, ⊎_elim, arith, le-ltb}
-use Rattle.std.proofs.Common.{lt-ltb, le-leb, if◌then◌else◌}
+use Rattle.std.proofs.Common.{lt-ltb, le-leb, leb, ltb, if◌then◌else◌}
 use lib.ListN.{length-map}
 use Rattle.std.specs.Prelude.{option_map}
 use Rattle.std.specs.List.Sorted.{IsNonDecreasing}
@@ -93,6 +93,85 @@ module _ (wanted : ℕ) where
       ap (option_map (λ best. best.0)) (comes 0 table None i h.inside h.not_above tt h.greatest h.less_before)
       ∙ ap Some q
 
+module _ (table : List ℕ) (wanted : ℕ) (up : IsNonDecreasing table) where
+  right-lands : (f : Option ℕ) → Right table wanted f → f ≡ land_of table wanted
+  right-lands (Some i) r = sym (land-first wanted table i (allowed-first table wanted up i r.1))
+  right-lands None (inl e) = sym (land-none wanted table (λ j l. absurd (omega arith)))
+  right-lands None (inr g) = sym (land-none wanted table (λ j l. omega (arith, up 0 j 0 (omega arith) l)))
+
+  -- the search comes to the first of the greatest entries that aren't above
+  pub find_lands : find_in table wanted ≡ land_of table wanted
+  find_lands = right-lands (find_in table wanted) (find-right table wanted)
+
+-- of any table: the addresses and an address come to the entry that the entries and what is above the base come to
+module _ (base : ℕ) where
+  moved-le : (a b : ℕ) → leb (base + a) (base + b) ≡ leb a b
+  moved-le a b =
+      ⊎_elim
+      (λ (l : b < a).
+      let m : base + b < base + a = omega arith in lt-leb _ _ m ∙ sym (lt-leb _ _ l))
+      (λ (l : a ≤ b).
+      let m : base + a ≤ base + b = omega arith in le-leb _ _ m ∙ sym (le-leb _ _ l))
+      (cases_lt b a)
+
+  moved-lt : (a b : ℕ) → ltb (base + a) (base + b) ≡ ltb a b
+  moved-lt a b =
+      ⊎_elim
+      (λ (l : a < b).
+      let m : base + a < base + b = omega arith in lt-ltb _ _ m ∙ sym (lt-ltb _ _ l))
+      (λ (l : b ≤ a).
+      let m : base + b ≤ base + a = omega arith in le-ltb _ _ m ∙ sym (le-ltb _ _ l))
+      (cases_lt a b)
+
+  -- the best so far among the addresses
+  abbrev moved : Option (ℕ × ℕ) → Option (ℕ × ℕ)
+  moved None = None
+  moved (Some best) = Some (best.0, base + best.1)
+
+  moved-better : (best : Option (ℕ × ℕ)) (e : ℕ) → is_better (moved best) (base + e) ≡ is_better best e
+  moved-better None e = refl
+  moved-better (Some best) e = moved-lt best.1 e
+
+  moved-place : (best : Option (ℕ × ℕ)) → option_map (λ b. b.0) (moved best) ≡ option_map (λ b. b.0) best
+  moved-place None = refl
+  moved-place (Some best) = refl
+
+  module _ (w : ℕ) where
+    moved-step :
+        (k e : ℕ) (best : Option (ℕ × ℕ)) →
+        (if leb (base + e) (base + w) then if is_better (moved best) (base + e) then Some (k, base + e) else moved best
+        else moved best)
+        ≡ moved (if leb e w then if is_better best e then Some (k, e) else best else best)
+    moved-step k e best = rw (moved-le e w, moved-better best e) (go (leb e w) (is_better best e))
+      where
+        go :
+            (t u : Bool) →
+            (if t then if u then Some (k, base + e) else moved best else moved best)
+            ≡ moved (if t then if u then Some (k, e) else best else best)
+        go true true = refl
+        go true false = refl
+        go false u = refl
+
+    moved-from :
+        (k : ℕ) (es : List ℕ) (best : Option (ℕ × ℕ)) →
+        land_from k (map (λ e. base + e) es) (base + w) (moved best) ≡ moved (land_from k es w best)
+    unfolding land_from
+    moved-from k [] best = refl
+    moved-from k (e ∷ es) best =
+        ap (land_from (k + 1) (map (λ e. base + e) es) (base + w)) (moved-step k e best)
+        ∙ moved-from (k + 1) es (if leb e w then if is_better best e then Some (k, e) else best else best)
+
+    moved-of : (table : List ℕ) → land_of (map (λ e. base + e) table) (base + w) ≡ land_of table w
+    unfolding land_of
+    moved-of table =
+        ap (option_map (λ best. best.0)) (moved-from 0 table None) ∙ moved-place (land_from 0 table w None)
+
+  pub land_moved :
+      (table : List ℕ) (addr : ℕ) → base ≤ addr → land_of (map (λ e. base + e) table) addr ≡ land_of table (addr - base)
+  land_moved table addr h =
+      let q : addr ≡ base + (addr - base) = omega arith in
+      ap (land_of (map (λ e. base + e) table)) q ∙ moved-of (addr - base) table
+
 -- the same of addresses
 module _ (base : ℕ) (table : List ℕ) (addr : ℕ) where
   abbrev addresses : List ℕ
@@ -103,42 +182,16 @@ module _ (base : ℕ) (table : List ℕ) (addr : ℕ) where
   moved-entry zero (e ∷ es) l = refl
   moved-entry (suc j) (e ∷ es) l = moved-entry j es (omega arith)
 
-  moved-inside : (j : ℕ) → j < length addresses → j < length table
-  moved-inside j l = rw length-map at l
-
   pub moved-none : ((j : ℕ) → j < length table → addr < base + get_or table j 0) → land_of addresses addr ≡ None
   moved-none a =
       land-none addr addresses
-      (λ j l. let m = moved-inside j l in omega (arith, moved-entry j table m, a j m))
+      (λ j l. let m : j < length table = rw length-map at l in omega (arith, moved-entry j table m, a j m))
 
   pub moved-first :
       (i : ℕ) → base ≤ addr → FirstOfGreatest table (addr - base) i → land_of addresses addr ≡ Some i
-  moved-first i h f =
-      land-first addr addresses i (record {
-        inside = omega (arith, length-map table (λ (e : ℕ). base + e), f.inside);
-        not_above = omega (arith, here, f.not_above);
-        greatest = λ j l n.
-            let m = moved-inside j l in
-            let p = moved-entry j table m in
-            omega (arith, here, p, n, f.greatest j m (omega (arith, p, n)));
-        less_before = λ j l. omega (arith, here, moved-entry j table (omega (arith, f.inside)), f.less_before j l);
-      })
-    where
-      here : get_or addresses i 0 ≡ base + get_or table i 0
-      here = moved-entry i table f.inside
+  moved-first i h f = land_moved base table addr h ∙ land-first (addr - base) table i f
 
 module _ (v : View) (addr : Address) (up : IsNonDecreasing (entries_of v)) where
-  lands :
-      v.tables.base.0 ≤ addr.0 → (f : Option ℕ) → Right (entries_of v) (addr.0 - v.tables.base.0) f →
-      f ≡ land_of (map (λ e. v.tables.base.0 + e) (entries_of v)) addr.0
-  lands h (Some i) r =
-      sym
-      (moved-first v.tables.base.0 (entries_of v) addr.0 i h
-      (allowed-first (entries_of v) (addr.0 - v.tables.base.0) up i r.1))
-  lands h None (inl e) = sym (moved-none v.tables.base.0 (entries_of v) addr.0 (λ j l. absurd (omega arith)))
-  lands h None (inr g) =
-      sym (moved-none v.tables.base.0 (entries_of v) addr.0 (λ j l. omega (arith, up 0 j 0 (omega arith) l)))
-
   pub find-address : find_of v addr ≡ land_of (addresses_of v) addr.0
   unfolding find_of addresses_of
   find-address =
@@ -147,6 +200,6 @@ module _ (v : View) (addr : Address) (up : IsNonDecreasing (entries_of v)) where
       rw (lt-ltb _ _ l) (sym (moved-none v.tables.base.0 (entries_of v) addr.0 (λ j p. omega arith))))
       (λ (l : v.tables.base.0 ≤ addr.0).
       rw (le-ltb _ _ l)
-      (lands l (find_in (entries_of v) (addr.0 - v.tables.base.0))
-      (find-right (entries_of v) (addr.0 - v.tables.base.0))))
+      (find_lands (entries_of v) (addr.0 - v.tables.base.0) up
+      ∙ sym (land_moved v.tables.base.0 (entries_of v) addr.0 l)))
       (cases_lt addr.0 v.tables.base.0)

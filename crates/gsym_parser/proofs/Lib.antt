@@ -9,6 +9,7 @@ pub mod Choice
 pub mod Lands
 pub mod Symbols
 pub mod Lists
+pub mod Ahead
 mod Finding
 pub mod Places
 pub mod Said

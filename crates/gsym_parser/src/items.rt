@@ -67,19 +67,21 @@ impl<'a> Items<'a> {
 }
 
 impl<'a> Iterator for Items<'a> {
-    ghost use Rattle.std.specs.Prelude.{◌≡◌};
+    ghost use Rattle.std.specs.Prelude.{◌≡◌, Some, IfSome};
     ghost use Rattle.std.specs.Iterator.{YieldsFirstBy, item_count};
-    ghost use Rattle.gsym_parser.specs.Items.{items_left, item_view, closed_of};
+    ghost use Rattle.gsym_parser.specs.Items.{items_left, item_view, item_front, closed_of};
 
     type Item = Item<'a>;
 
     ghost next_gives = { λ old item new.
         YieldsFirstBy item_view items_left old item new
-        × (closed_of new.rest.now ≡ closed_of old.rest.now) };
+        × (closed_of new.rest.now ≡ closed_of old.rest.now)
+        × IfSome item (λ i. item_front old.rest.now ≡ Some (item_view i, new.rest.now)) };
 
     ghost remaining = { item_count items_left };
 
-    /// The next item. Where there is none the list has ended, and stays as it is: `is_closed` says how it ended.
+    /// The next item; what is left then stands behind it, so that the numbers of bytes left say where it stands (RULES,
+    /// "Address data list"). Where there is none the list has ended, and stays as it is: `is_closed` says how it ended.
     #[tactic(auto, using(crate::proofs::Lists::items_step, crate::proofs::Lists::closed_step))]
     fn next(&mut self) -> Option<Item<'a>> {
         let (item, rest) = self.split()?;

@@ -92,6 +92,16 @@ impl<'a> GsymContext<'a> {
         }
         Some(entry_at(&self.file[self.tables.addrs..], size, index))
     }
+
+    /// The address of an entry's symbol: the base plus the entry, modulo 2^64; the base alone where there is no such
+    /// entry (RULES, "Finding the entry").
+    #[tactic(auto, unfolding(crate::specs::Entries::symbol_at))]
+    pub fn addr_at(&self, index: usize) -> Address
+        ensures { result ≡ symbol_at (view self.now) index }
+    {
+        let entry = self.entry(index).unwrap_or(0);
+        Address(self.tables.base.0.wrapping_add(entry))
+    }
 }
 
 // How many entries there are: none at an offset size other than 1, 2, 4 or 8.

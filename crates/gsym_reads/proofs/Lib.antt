@@ -3,3 +3,7 @@ pub mod Steps
 pub mod Or
 pub mod Cut
 pub mod Maybe
+pub mod Bytes
+pub mod Places
+pub mod Window
+pub mod Widths

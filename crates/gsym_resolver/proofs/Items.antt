@@ -33,7 +33,7 @@ use Rattle.gsym_resolver.proofs.Blocks.{block_listed, block_refused}
 use Rattle.gsym_resolver.proofs.TableRows.{table_row}
 
 -- a line table doesn't read exactly if its header doesn't
-header_unread :
+pub header_unread :
     (bytes : List ℕ) (symbol addr : Address) (c : Cause) → IsUnread bytes 0 c ↔ (line_row bytes symbol addr ≡ Err c)
 unfolding line_row table_of
 header_unread bytes symbol addr c = (
@@ -52,7 +52,7 @@ module _ (q : Question) where
   -- ---- rows
 
   -- the row after items: one that is known stays
-  abbrev RowFrom : Option LineTableRow → List ItemData → Option LineTableRow → Type 0
+  abbrev pub RowFrom : Option LineTableRow → List ItemData → Option LineTableRow → Type 0
   RowFrom (Some r) items s = s ≡ Some r
   RowFrom None items s = RowIs q items s
 
@@ -130,7 +130,7 @@ module _ (q : Question) where
   -- ---- frames
 
   -- the frames after items: those that are known stay
-  abbrev FramesFrom : List InlineFrame → List ItemData → List InlineFrame → Type 0
+  abbrev pub FramesFrom : List InlineFrame → List ItemData → List InlineFrame → Type 0
   FramesFrom (f ∷ fs) items gs = gs ≡ f ∷ fs
   FramesFrom [] items gs = FramesAre q items gs
 
@@ -223,22 +223,22 @@ module _ (q : Question) where
   -- ---- both, in list order
 
   -- what is known after items, from what is known before
-  abbrev From : Known → List ItemData → Known → Type 0
-  From k items l = RowFrom k.row items l.row × FramesFrom k.frames items l.frames
+  abbrev pub KnownFrom : Known → List ItemData → Known → Type 0
+  KnownFrom k items l = RowFrom k.row items l.row × FramesFrom k.frames items l.frames
 
-  -- the first item that refuses
-  record Refusing (k : Known) (items : List ItemData) (r : Refusal) : Type 0 where
-    before : List ItemData
-    this : ItemData
-    after : List ItemData
-    split : items ≡ before ++ this ∷ after
-    known : Known
-    from : From k before known
-    refuses : ItemRefuses q known.row known.frames this r
+  -- the first item that refuses, from what is known before them: those before it are read
+  pub record FirstRefusingFrom (k : Known) (items : List ItemData) (r : Refusal) : Type 0 where
+    pub before : List ItemData
+    pub this : ItemData
+    pub after : List ItemData
+    pub split : items ≡ before ++ this ∷ after
+    pub known : Known
+    pub from : KnownFrom k before known
+    pub refuses : ItemRefuses q known.row known.frames this r
 
   abbrev ItemsOutcome : Known → List ItemData → Result Known Refusal → Type 0
-  ItemsOutcome k items (Ok l) = From k items l
-  ItemsOutcome k items (Err r) = Refusing k items r
+  ItemsOutcome k items (Ok l) = KnownFrom k items l
+  ItemsOutcome k items (Err r) = FirstRefusingFrom k items r
 
   read_outcome : (items : List ItemData) (k : Known) → ItemsOutcome k items (read_items q items k)
   unfolding read_items
@@ -250,7 +250,7 @@ module _ (q : Question) where
       (λ x f. this x (frames_refuse item items k.row k.frames x f)) (λ gs f.
       onward s e gs f (read_items q items (knowing s gs)) (read_outcome items (knowing s gs))))
     where
-      this : (r : Refusal) → ItemRefuses q k.row k.frames item r → Refusing k (item ∷ items) r
+      this : (r : Refusal) → ItemRefuses q k.row k.frames item r → FirstRefusingFrom k (item ∷ items) r
       this r h = record {
         before = [];
         this = item;
@@ -283,7 +283,8 @@ module _ (q : Question) where
 
   -- items that are read hand on what is known
   read_on :
-      (items rest : List ItemData) (k l : Known) → From k items l → read_items q (items ++ rest) k ≡ read_items q rest l
+      (items rest : List ItemData) (k l : Known) → KnownFrom k items l →
+      read_items q (items ++ rest) k ≡ read_items q rest l
   unfolding read_items
   read_on [] rest k l h =
       ap (λ r. read_items q rest (knowing r k.frames)) (row_ended k.row l.row h.0)
@@ -292,18 +293,6 @@ module _ (q : Question) where
       let r = row_next item items k.row l.row h.0 in
       let f = frames_next item items k.frames l.frames h.1 in
       rw (r.1, f.1) (read_on items rest (knowing r.0 f.0) l (r.2, f.2))
-
-  -- ---- what the laws of a lookup cite
-
-  -- the items are read exactly if a row or none, and frames or none, are given
-  pub items_known :
-      (items : List ItemData) (known : Option LineTableRow) (fs : List InlineFrame) →
-      (read_items q items nothing ≡ Ok (knowing known fs)) ↔ (RowIs q items known × FramesAre q items fs)
-  unfolding read_items
-  items_known items known fs = (
-    λ e. subst (ItemsOutcome nothing items) e (read_outcome items nothing),
-    λ h. ap (λ l. read_items q l nothing) (sym (append-nil items)) ∙ read_on items [] nothing (knowing known fs) h,
-  )
 
   -- an inline block changes no row
   row_other : (item : ItemData) (r : Option LineTableRow) → item.kind ≡ 2 → row_after q item r ≡ Ok r
@@ -320,11 +309,40 @@ module _ (q : Question) where
       let e = (block_refused q.symbol.0 q.addr.0 q.room item.bytes r).1 f in
       rw (row_other item k.row two, n, eq-eqb item.kind 2 two, i, e)
 
+  -- ---- after any row and frames
+
+  -- after any row and frames, the items are read exactly if this row or none, and these frames or none, follow
+  pub items_known_from :
+      (items : List ItemData) (k l : Known) → (read_items q items k ≡ Ok l) ↔ KnownFrom k items l
+  unfolding read_items
+  items_known_from items k l = (
+    λ e. subst (ItemsOutcome k items) e (read_outcome items k),
+    λ h. ap (λ m. read_items q m k) (sym (append-nil items)) ∙ read_on items [] k l h,
+  )
+
+  -- after any row and frames, they are refused exactly with the first item that refuses
+  pub items_refused_from :
+      (items : List ItemData) (k : Known) (r : Refusal) → (read_items q items k ≡ Err r) ↔ FirstRefusingFrom k items r
+  items_refused_from items k r = (
+    λ e. subst (ItemsOutcome k items) e (read_outcome items k),
+    λ h. ap (λ m. read_items q m k) h.split
+        ∙ read_on h.before (h.this ∷ h.after) k h.known h.from
+        ∙ refusal r h.known h.this h.after h.refuses,
+  )
+
+  -- ---- what the laws of a lookup cite
+
+  -- the items are read exactly if a row or none, and frames or none, are given
+  pub items_known :
+      (items : List ItemData) (known : Option LineTableRow) (fs : List InlineFrame) →
+      (read_items q items nothing ≡ Ok (knowing known fs)) ↔ (RowIs q items known × FramesAre q items fs)
+  items_known items known fs = items_known_from items nothing (knowing known fs)
+
   -- they are refused exactly with the first item that refuses
   pub items_refused :
       (items : List ItemData) (r : Refusal) → (read_items q items nothing ≡ Err r) ↔ FirstRefusing q items r
   items_refused items r = (
-    λ e. let h : Refusing nothing items r = subst (ItemsOutcome nothing items) e (read_outcome items nothing) in
+    λ e. let h = (items_refused_from items nothing r).0 e in
         record {
           before = h.before;
           this = h.this;
@@ -336,9 +354,15 @@ module _ (q : Question) where
           frames_are = h.from.1;
           refuses = h.refuses;
         },
-    λ h. ap (λ l. read_items q l nothing) h.split
-        ∙ read_on h.before (h.this ∷ h.after) nothing (knowing h.known_row h.known_frames) (h.row_is, h.frames_are)
-        ∙ refusal r (knowing h.known_row h.known_frames) h.this h.after h.refuses,
+    λ h. (items_refused_from items nothing r).1 (record {
+      before = h.before;
+      this = h.this;
+      after = h.after;
+      split = h.split;
+      known = knowing h.known_row h.known_frames;
+      from = (h.row_is, h.frames_are);
+      refuses = h.refuses;
+    }),
   )
 
 -- the row doesn't depend on whether frames are wanted, nor on the room for them

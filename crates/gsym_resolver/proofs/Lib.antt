@@ -2,6 +2,7 @@ pub mod Firsts
 pub mod Blocks
 pub mod TableRows
 pub mod Items
+pub mod RowAndFrames
 pub mod Shared
 pub mod Joined
 pub mod Strings
@@ -12,6 +13,10 @@ pub mod LaterFrames
 pub mod Records
 pub mod Rooms
 pub mod Numbers
+pub mod Unanswered
 pub mod Listings
 pub mod Texts
 pub mod Calls
+pub mod Lines
+pub mod Copied
+pub mod Placed

@@ -39,19 +39,19 @@ use Rattle.gsym_resolver.proofs.Blocks.{fault_number}
 use Rattle.gsym_resolver.proofs.Lookups.{lookup_met}
 
 -- a position is refused with 7 or 8, a later frame with 6, 7 or 8
-unplaced_number : (t : SharedTables) (i : _) (r : Refusal) → NoPosition t i r → (7 ≤ number_of r) × (number_of r ≤ 8)
+pub unplaced_number : (t : SharedTables) (i : _) (r : Refusal) → NoPosition t i r → (7 ≤ number_of r) × (number_of r ≤ 8)
 unplaced_number t i r (no_file l) = (omega arith, omega arith)
 unplaced_number t i r (no_dir f e d) = (omega arith, omega arith)
 unplaced_number t i r (no_file_name f e d n) = (omega arith, omega arith)
 
-uncalled_number :
+pub uncalled_number :
     (t : SharedTables) (f : InlineFrame) (r : Refusal) → NoCall t f r → (6 ≤ number_of r) × (number_of r ≤ 8)
 uncalled_number t f r (no_name n) = (omega arith, omega arith)
 uncalled_number t f r (no_site n u) = let k = unplaced_number t f.call_file r u in (omega (arith, k.0), k.1)
 
 -- an item that refuses: the header of a line table, or the first of the inline blocks that doesn't list none
 module _ (q : Question) (items : List ItemData) where
-  abbrev FirstBlock : Refusal → Type 0
+  abbrev pub FirstBlock : Refusal → Type 0
   FirstBlock r = (q.inlining ≡ true) × First (GivesNoFrames q) (BlockRefuses q r) items
 
   none_listed : (before : List ItemData) (fs : List InlineFrame) → FramesAre q before fs → fs ≡ [] → q.inlining ≡ true →
@@ -60,7 +60,7 @@ module _ (q : Question) (items : List ItemData) where
   none_listed before fs (no_frames a) e t = a
   none_listed before fs (frames i F) e t = absurd cc
 
-  abbrev FirstTable : Refusal → Type 0
+  abbrev pub FirstTable : Refusal → Type 0
   FirstTable r = First (GivesNoRow q) (HeaderRefuses q r) items
 
   none_given : (before : List ItemData) (known : Option LineTableRow) → RowIs q before known → known ≡ None →
@@ -68,7 +68,7 @@ module _ (q : Question) (items : List ItemData) where
   none_given before known (no_row a) e = a
   none_given before known (met.row F) e = absurd cc
 
-  item_number : (r : Refusal) → FirstRefusing q items r → FirstTable r ⊎ FirstBlock r
+  pub item_number : (r : Refusal) → FirstRefusing q items r → FirstTable r ⊎ FirstBlock r
   item_number r F = go r F.before F.this F.after F.split F.known_row F.row_is F.known_frames F.frames_are F.refuses
     where
       go : (x : Refusal) (before : List ItemData) (this : ItemData) (after : List ItemData) →

@@ -2,8 +2,8 @@
 -- its name (6), its items in list order (9 to 15), the row's position (7, 8), the first frame's name (6), each later
 -- frame (6, 7, 8), and the positions moved up one. Texts are places of the file. `WithPlaces` tells the same in values.
 -- Assumes nothing.
-use Rattle.std.specs.Prelude.{ℕ, Bool, true, false, List, [], ◌∷◌, length, Some, None, Ok, Err, Option, Result}
-use Rattle.std.specs.Prelude.{if◌then◌else◌}
+use Rattle.std.specs.Prelude.{ℕ, Bool, true, false, List, [], ◌∷◌, length, take, Some, None, Ok, Err, Option, Result}
+use Rattle.std.specs.Prelude.{◌&&◌, if◌then◌else◌}
 use Rattle.gsym_reads.specs.Steps.{◌>>=◌, ◌>>◌, need, given}
 use Rattle.gsym_types.specs.declared.Address.{Address}
 use Rattle.gsym_types.specs.declared.Answer.{Answer}
@@ -157,6 +157,15 @@ placed_with (Err r) fs = Err r
 abbrev pub looked_up : Result Answer Refusal → List Frame → Result LookedUp Refusal
 looked_up (Ok a) fs = Ok (record { answer = a; frames = fs })
 looked_up (Err r) fs = Err r
+
+-- the records of a lookup in the list that is lent to it: what the list has where they are asked for, else none
+abbrev pub records_asked : Options → List Frame → List Frame
+records_asked o fs = if o.code_info && o.inlining then fs else []
+
+-- the records of an answer, which stand at the front of a list; a refusal has none
+abbrev pub records_in : Result Answer Refusal → List Frame → List Frame
+records_in (Ok a) frames = take a.count frames
+records_in (Err r) frames = []
 
 -- position without inlining, or the symbol alone
 abbrev pub plain_options : Bool → Options

@@ -1,7 +1,9 @@
 //! What is asked, and what the reader answers, as numbers.
 use arrayvec::ArrayVec;
 use gsym_resolver::Records;
-use gsym_types::{Address, Answer, Frame, Options, Refusal};
+use gsym_types::{
+    Address, Answer, Frame, LineNumber, MAX_FRAMES, Options, Position, Refusal, Text,
+};
 use std::fmt;
 
 /// How many numbers an answer has on a line.
@@ -23,9 +25,21 @@ pub struct Question {
 pub struct Answered {
     pub numbers: [u64; ANSWER_LEN],
     list: Records,
-    /// without inlining: the call that takes no list answers the same, and the list is as it was
+    // How many records the list that was lent has place for.
+    lent: usize,
+    /// without both options: the call that takes no list answers the same, and the list is as it was
     pub agrees_without_list: bool,
 }
+
+// A record that no file gives: a list is lent with it where no records are asked for.
+const LENT: Frame = Frame {
+    name: Text { place: 1, len: 2 },
+    position: Position {
+        dir: Text { place: 3, len: 4 },
+        file: Text { place: 5, len: 6 },
+        line: LineNumber(7),
+    },
+};
 
 // An answer's numbers: 0 and what it says, with zeros where there is no position; or a refusal's number and zeros.
 fn numbers_of(looked_up: Result<Answer, Refusal>) -> [u64; ANSWER_LEN] {
@@ -52,32 +66,45 @@ fn numbers_of(looked_up: Result<Answer, Refusal>) -> [u64; ANSWER_LEN] {
 }
 
 impl Question {
-    /// What the reader answers, with a list of 64 records of which it may use `room`.
+    /// What the reader answers, with a list of 64 records of which it may use `room`; without both options the list is
+    /// lent with a record in it, which has to stay.
     pub fn ask(self, file: &[u8]) -> Answered {
         let Question {
             addr,
             options,
             room,
         } = self;
+        let asks_records = options.code_info && options.inlining;
         let mut list: Records = ArrayVec::new();
+        if !asks_records {
+            list.push(LENT);
+        }
         let looked_up = gsym_resolver::lookup_in(file, addr, options, room, &mut list);
         let numbers = numbers_of(looked_up);
-        let agrees_without_list = options.inlining
+        let agrees_without_list = asks_records
             || numbers == numbers_of(gsym_resolver::lookup_plain(file, addr, options.code_info))
-                && list.is_empty();
+                && list.len() == 1
+                && list.as_slice().first() == Some(&LENT);
+        if !asks_records {
+            list.clear();
+        }
         Answered {
             numbers,
             list,
+            lent: room.min(MAX_FRAMES),
             agrees_without_list,
         }
     }
 }
 
 impl Answered {
-    /// The numbers of a record of the list, none past its end.
+    /// The numbers of a record of the list that was lent, zeros where none was written, none past its end.
     pub fn record(&self, index: usize) -> Option<[u64; RECORD_LEN]> {
-        let frame = self.list.as_slice().get(index)?;
-        Some(record_numbers(*frame))
+        match self.list.as_slice().get(index) {
+            Some(frame) => Some(record_numbers(*frame)),
+            None if index < self.lent => Some([0; RECORD_LEN]),
+            None => None,
+        }
     }
 
     /// From 0 on, for each number behind the first and of the records: itself times 1,000,003, plus the number, plus 1,

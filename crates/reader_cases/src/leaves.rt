@@ -4,7 +4,7 @@ use crate::said::Said;
 use crate::{blocks, lines, tables};
 use gsym_leb128::Cause;
 use gsym_strtab::StrTable;
-use gsym_types::{Address, FileIndex, StrOffset, Text};
+use gsym_types::{Address, FileIndex, LineNumber, StrOffset, Text};
 
 impl From<Cause> for Said {
     fn from(cause: Cause) -> Said {
@@ -53,22 +53,6 @@ fn low32(x: u64) -> u32 {
     (x & 0xffff_ffff) as u32
 }
 
-// The quotient as a special opcode takes it, 0 where there is none.
-fn quotient(a: u8, divisor: i64) -> i64 {
-    if divisor == 0 {
-        return 0;
-    }
-    (a as i64) / divisor
-}
-
-// The remainder beside it.
-fn remainder(a: u8, divisor: i64) -> i64 {
-    if divisor == 0 {
-        return a as i64;
-    }
-    (a as i64) % divisor
-}
-
 /// What the leaf of the case's kind answers; `NoLeaf` where no leaf is of that kind.
 pub fn answer(case: &Case) -> Said {
     let bytes = case.bytes.as_slice();
@@ -94,10 +78,13 @@ pub fn answer(case: &Case) -> Said {
         'l' => Said::value(gsym_strtab::sequence_len(low8(r)) as u64, 0),
         '+' => Said::value(x.wrapping_add(y).cast_unsigned(), 0),
         '-' => Said::value(x.wrapping_sub(y).cast_unsigned(), 0),
-        '/' => Said::value(quotient(low8(p), y).cast_unsigned(), 0),
-        '%' => Said::value(remainder(low8(p), y).cast_unsigned(), 0),
-        '6' => Said::value(p.wrapping_add_signed(y), 0),
-        '3' => Said::value(low32(p).wrapping_add(low32(q)) as u64, 0),
+        '/' => Said::value(gsym_linetab::quotient(low8(p), y).cast_unsigned(), 0),
+        '%' => Said::value(gsym_linetab::remainder(low8(p), y).cast_unsigned(), 0),
+        '6' => Said::value(gsym_linetab::addr_after(Address(p), y).0, 0),
+        '3' => Said::value(
+            gsym_linetab::line_after(LineNumber(low32(p)), y).0 as u64,
+            0,
+        ),
         'H' => lines::header(bytes),
         'o' => lines::nth_op(bytes, Address(p), q),
         'L' => lines::row(bytes, Address(p), Address(q)),
